@@ -1,0 +1,129 @@
+-- The bays, and what the past says of each: its pack and its reading.
+use Prim.Native.Nat.{ℕ, zero, suc, _<_}
+use mathlib.Core.Path.{_≡_, refl, sym}
+use mathlib.Core.Bool.{Bool, true, false, cond, _&&_, _||_, and-true, and-false, true≢false}
+use mathlib.Core.List.{List, [], _∷_}
+use lib.Dec.{eqb}
+use lib.ListN.{set, length, length-set}
+use lib.Seq.{getD-set-same, getD-set-other}
+use borrow.Author.Tests.{eqb-true, eqb-false}
+use native.Mathlib.Omega.{arith}
+use Rattle.model.specs.declared.Setup.{Setup}
+use Rattle.model.specs.declared.Bay.{Bay}
+use Rattle.model.specs.declared.Event.{Event}
+use Rattle.model.specs.declared.Machine.{Machine}
+use Rattle.model.specs.Words.{named, bayNumber}
+use Rattle.model.specs.Board.{allows}
+use Rattle.model.specs.Events.{presetsWord, insertion, removal, signal, terminal, is, isAt, atBay, wordOf, bayOf}
+use Rattle.model.specs.Bays.{emptyBay, bayAt, bayNamed, presentAfter, readingAfter, bayAfter, baysAfter, okWritten, allOkWritten}
+use Rattle.model.specs.Machines.{powerOn}
+use Rattle.model.specs.Facts.{Past, holdsPack, packAt, reading}
+
+pub record BayAgrees (bay : Bay) (b : ℕ) (h : Past) : Type 0 where
+  pub present-is : bay .present ≡ holdsPack b h
+  pub reading-is : bay .reading ≡ reading b h
+
+pub record BaysAgree (bays : List Bay) (h : Past) : Type 0 where
+  pub four : length bays ≡ 4
+  pub each : (b : ℕ) → b < 4 → BayAgrees (bayAt bays b) b h
+
+-- what holds of each of the four bays
+pub below-four : (P : ℕ → Type 0) → P 0 → P 1 → P 2 → P 3 → (b : ℕ) → b < 4 → P b
+below-four P p₀ p₁ p₂ p₃ zero l = p₀
+below-four P p₀ p₁ p₂ p₃ (suc zero) l = p₁
+below-four P p₀ p₁ p₂ p₃ (suc (suc zero)) l = p₂
+below-four P p₀ p₁ p₂ p₃ (suc (suc (suc zero))) l = p₃
+below-four P p₀ p₁ p₂ p₃ (suc (suc (suc (suc b)))) l = absurd (omega arith)
+
+-- a Presets word, bay by bay
+pub ok-written-at : (w : ℕ) (bays : List Bay) (b : ℕ) → b < 4 → bayAt (allOkWritten w bays) b ≡ okWritten w b (bayAt bays b)
+unfolding allOkWritten bayAt
+ok-written-at w bays = below-four (λ b. bayAt (allOkWritten w bays) b ≡ okWritten w b (bayAt bays b)) refl refl refl refl
+
+-- at power-on each bay is empty
+pub empty-at : (s : Setup) (b : ℕ) → b < 4 → bayAt (powerOn s .bays) b ≡ emptyBay
+unfolding powerOn bayAt
+empty-at s = below-four (λ b. bayAt (powerOn s .bays) b ≡ emptyBay) refl refl refl refl
+
+-- an event at another bay
+elsewhere : (e : Event) (b : ℕ) (h : Past) (bay : Bay) → eqb (bayOf e) b ≡ false → BayAgrees bay b h → BayAgrees bay b (e ∷ h)
+unfolding holdsPack reading isAt
+elsewhere e b h bay q a = record { present-is = simp (q, and-false) (a .present-is); reading-is = simp (q, and-false) (a .reading-is) }
+
+-- an event at no bay
+nowhere : (e : Event) (b : ℕ) (h : Past) (bay : Bay) → atBay e ≡ false → BayAgrees bay b h → BayAgrees bay b (e ∷ h)
+unfolding holdsPack reading isAt atBay
+nowhere e b h bay q a = go (is insertion e) (is removal e) (is signal e) refl refl refl q
+  where
+    go : (i o r : Bool) → is insertion e ≡ i → is removal e ≡ o → is signal e ≡ r → (i || o || r || is terminal e) ≡ false → BayAgrees bay b (e ∷ h)
+    go false false false p₁ p₂ p₃ z = record { present-is = simp (p₁, p₂) (a .present-is); reading-is = simp (p₁, p₂, p₃) (a .reading-is) }
+    go true o r p₁ p₂ p₃ z = absurd (true≢false z)
+    go false true r p₁ p₂ p₃ z = absurd (true≢false z)
+    go false false true p₁ p₂ p₃ z = absurd (true≢false z)
+
+-- an event at this bay
+here : (s : Setup) (e : Event) (b : ℕ) (h : Past) (bay : Bay) → eqb (bayOf e) b ≡ true → BayAgrees bay b h → BayAgrees (bayAfter s e bay) b (e ∷ h)
+unfolding holdsPack reading isAt bayAfter presentAfter readingAfter
+here s e b h bay q a = record { present-is = simp (q, and-true, a .present-is); reading-is = simp (q, and-true, a .reading-is) }
+
+pub bays-step : (m : Machine) (e : Event) (h : Past) → BaysAgree (m .bays) h → BaysAgree (baysAfter (m .setup) (m .bays) e) (e ∷ h)
+unfolding baysAfter allOkWritten bayAt
+bays-step m e h a = go (atBay e) refl (is presetsWord e)
+  where
+    new : Bay
+    new = bayAfter (m .setup) e (bayAt (m .bays) (bayOf e))
+
+    at : (b : ℕ) → b < 4 → (t : Bool) → eqb (bayOf e) b ≡ t → BayAgrees (bayAt (set (m .bays) (bayOf e) new) b) b (e ∷ h)
+    at b l true q =
+        let z : bayOf e ≡ b = eqb-true _ _ q in
+        let n : b < length (m .bays) = omega (arith, a .four) in
+        rw (z, getD-set-same) (here (m .setup) e b h (bayAt (m .bays) b) q (a .each b l))
+    at b l false q = rw (getD-set-other (m .bays) (bayOf e) b new emptyBay (λ z. eqb-false _ _ q (sym z))) (elsewhere e b h (bayAt (m .bays) b) q (a .each b l))
+
+    marked : (b : ℕ) → b < 4 → BayAgrees (okWritten (wordOf e) b (bayAt (m .bays) b)) b h
+    marked b l = record { present-is = a .each b l .present-is; reading-is = a .each b l .reading-is }
+
+    go : (t : Bool) → atBay e ≡ t → (p : Bool) →
+        BaysAgree (cond t (set (m .bays) (bayOf e) new) (cond p (allOkWritten (wordOf e) (m .bays)) (m .bays))) (e ∷ h)
+    go true q p = record { four = rw length-set (a .four); each = λ b l. at b l (eqb (bayOf e) b) refl }
+    go false q true = record { four = refl; each = λ b l. nowhere e b h _ q (rw (ok-written-at (wordOf e) (m .bays) b l) (marked b l)) }
+    go false q false = record { four = a .four; each = λ b l. nowhere e b h _ q (a .each b l) }
+
+-- what a nibble names
+pub number-small : (n : ℕ) → bayNumber n < 4
+unfolding bayNumber
+number-small n = go (eqb n 1) (eqb n 2) (eqb n 4)
+  where
+    go : (x y z : Bool) → cond x 0 (cond y 1 (cond z 2 3)) < 4
+    go true y z = omega arith
+    go false true z = omega arith
+    go false false true = omega arith
+    go false false false = omega arith
+
+pub present-at : (bays : List Bay) (n : ℕ) (h : Past) → BaysAgree bays h → bayNamed bays n .present ≡ packAt n h
+unfolding bayNamed packAt
+present-at bays n h a = go (named n)
+  where
+    go : (t : Bool) → cond t (bayAt bays (bayNumber n)) emptyBay .present ≡ (t && holdsPack (bayNumber n) h)
+    go true = a .each (bayNumber n) (number-small n) .present-is
+    go false = refl
+
+-- the signal of the bay that a nibble names, where that bay holds a pack
+pub signal-at : (bays : List Bay) (n : ℕ) (h : Past) (first : Bool) → BaysAgree bays h →
+    (first && packAt n h && allows (bayNamed bays n .reading)) ≡ (first && packAt n h && allows (reading (bayNumber n) h))
+unfolding bayNamed packAt
+signal-at bays n h first a = go (named n)
+  where
+    go : (t : Bool) →
+        (first && (t && holdsPack (bayNumber n) h) && allows (cond t (bayAt bays (bayNumber n)) emptyBay .reading))
+        ≡ (first && (t && holdsPack (bayNumber n) h) && allows (reading (bayNumber n) h))
+    go true = rw (a .each (bayNumber n) (number-small n) .reading-is)
+    go false = simp and-false
+
+unheard : (b : ℕ) → BayAgrees emptyBay b []
+unfolding holdsPack reading
+unheard b = record { present-is = refl; reading-is = refl }
+
+pub bays-power-on : (s : Setup) → BaysAgree (powerOn s .bays) []
+unfolding powerOn
+bays-power-on s = record { four = refl; each = λ b l. rw (empty-at s b l) (unheard b) }

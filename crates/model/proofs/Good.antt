@@ -1,0 +1,240 @@
+-- A machine that 15 accepts stays one, so from power-on of a good setup nothing is refused by 15.
+use Prim.Native.Nat.{ℕ, zero, suc, _≤_, _<_}
+use mathlib.Core.Path.{_≡_, refl, sym, _∙_}
+use mathlib.Core.Bool.{Bool, true, false, not, cond, _&&_, _||_, true≢false, and-true, or-true}
+use mathlib.Core.List.{List}
+use lib.Dec.{ltb, eqb}
+use lib.ListN.{set, length, length-set}
+use lib.Seq.{getD-set-same, getD-set-other}
+use borrow.Author.Tests.{ltb-true, le-ltb, eqb-true, eqb-false, not-true, not-false}
+use native.Mathlib.Omega.{arith}
+use Rattle.model.specs.declared.Setup.{Setup}
+use Rattle.model.specs.declared.Bay.{Bay}
+use Rattle.model.specs.declared.Request.{Request}
+use Rattle.model.specs.declared.Event.{Event}
+use Rattle.model.specs.declared.Machine.{Machine}
+use Rattle.model.specs.Words.{bit, named, bayNumber, smbIn, powerIn, chargeIn, nextIn}
+use Rattle.model.specs.Events.{Kind, stateWord, presetsWord, insertion, removal, signal, terminal, tick, is, atBay, wordOf, bayOf, fromBay, connects}
+use Rattle.model.specs.Bays.{emptyBay, bayAt, bayNamed, candidate, presentAfter, okAfter, lowAfter, readingAfter, bayAfter, okWritten, allOkWritten, baysAfter}
+use Rattle.model.specs.SelectorRules.{acArrives, written, smbAfter, powerAfter, dropsCharge, chargeAfter, nextAfter}
+use Rattle.model.specs.ChargerRules.{ageAfter}
+use Rattle.model.specs.Machines.{powerOn, act}
+use Rattle.model.specs.Settling.{keptSmb, keptPower, unpowered, firstOf, takesOver, settledPower, settledSmb, settle}
+use Rattle.model.specs.Refusals.{supports, oneBay, goodSetup, strayNibble, overAge, wasRead, strayBay, strayBays, badMachine, unsupportedBay, formed, stateFormed, badNibble, wrongPresence}
+use Rattle.model.specs.Runs.{run}
+use Rattle.model.specs.Promises.{AlwaysGood}
+use Rattle.model.proofs.Bools.{choose, and-l, and-r, or-l, or-r, or-then, and-then}
+use Rattle.model.proofs.Passes.{Passes}
+use Rattle.model.proofs.Along.{along}
+use Rattle.model.proofs.Bays.{ok-written-at, empty-at, number-small}
+
+-- 0 or one supported bay
+One : Setup → ℕ → Type 0
+One s n = oneBay s n ≡ true
+
+-- what 15 asks of each bay
+Bayed : Setup → List Bay → Type 0
+Bayed s bays = (b : ℕ) → b < 4 → strayBay s b (bayAt bays b) ≡ false
+
+-- what 15 asks of a machine, part by part
+pub record Good (m : Machine) : Type 0 where
+  setup : goodSetup (m .setup) ≡ true
+  smb : One (m .setup) (m .selector .smb)
+  power : One (m .setup) (m .selector .power)
+  charge : One (m .setup) (m .selector .charge)
+  next : One (m .setup) (m .selector .next)
+  current-age : m .charger .current .age ≤ 175
+  voltage-age : m .charger .voltage .age ≤ 175
+  four : length (m .bays) ≡ 4
+  bays : Bayed (m .setup) (m .bays)
+
+accepted : (m : Machine) → Good m → badMachine m ≡ false
+unfolding badMachine strayNibble overAge strayBays One Bayed
+accepted m g =
+    simp (g .setup, g .smb, g .power, g .charge, g .next, le-ltb 175 _ (g .current-age), le-ltb 175 _ (g .voltage-age), g .bays 0 (omega arith), g .bays 1 (omega arith), g .bays 2 (omega arith), g .bays 3 (omega arith))
+
+-- ages
+
+age-small : (f : Bool) (k : Kind) (e : Event) (r : Request) → r .age ≤ 175 → ageAfter f k e r ≤ 175
+unfolding ageAfter
+age-small f k e r l =
+    choose (λ n. n ≤ 175) f _ _ (λ _. omega arith)
+    (λ _. choose (λ n. n ≤ 175) (is k e) _ _ (λ _. omega arith)
+    (λ _. choose (λ n. n ≤ 175) (is tick e) _ _
+    (λ _. choose (λ n. n ≤ 175) (ltb (r .age) 175) _ _ (λ q. omega (arith, ltb-true (r .age) 175 q)) (λ _. l))
+    (λ _. l)))
+
+-- bays
+
+ok-good : (s : Setup) (b w : ℕ) (x : Bay) → strayBay s b x ≡ false → strayBay s b (okWritten w b x) ≡ false
+unfolding strayBay
+ok-good s b w x = go (x .present) (x .ok)
+  where
+    go : (pr ok : Bool) → (pr && not (supports s b) || not pr && (ok || x .low || wasRead (x .reading))) ≡ false →
+        (pr && not (supports s b) || not pr && (pr && bit b w || x .low || wasRead (x .reading))) ≡ false
+    go true ok q = q
+    go false true q = absurd (true≢false q)
+    go false false q = q
+
+module _ (m : Machine) (e : Event) (p : Passes m e) (g : Good m) where
+  supported : atBay e ≡ true → supports (m .setup) (bayOf e) ≡ true
+  unfolding unsupportedBay
+  supported at = not-false _ (and-then (fromBay e || atBay e) _ (p .supported) (rw (at, or-true)))
+
+  here-good : (b : ℕ) → bayOf e ≡ b → atBay e ≡ true → strayBay (m .setup) b (bayAfter (m .setup) e (bayAt (m .bays) b)) ≡ false
+  unfolding strayBay presentAfter okAfter lowAfter readingAfter bayAfter wrongPresence atBay
+  here-good b z at = go (is insertion e) (is removal e) (bayAt (m .bays) b .present) refl refl refl
+    where
+      s : supports (m .setup) b ≡ true
+      s = rw z at (supported at)
+
+      go : (i o pr : Bool) → is insertion e ≡ i → is removal e ≡ o → bayAt (m .bays) b .present ≡ pr →
+          strayBay (m .setup) b (bayAfter (m .setup) e (bayAt (m .bays) b)) ≡ false
+      go true o pr p₁ p₂ p₃ = simp (p₁, s)
+      go false true pr p₁ p₂ p₃ = simp (p₁, p₂)
+      go false false true p₁ p₂ p₃ = simp (p₁, p₂, p₃, s)
+      go false false false p₁ p₂ p₃ = absurd (true≢false (sym (simp (p₁, p₂) at at) ∙ simp (z, p₁, p₂, p₃, and-true) at (p .right-presence)))
+
+  bays-good : Bayed (m .setup) (baysAfter (m .setup) (m .bays) e)
+  unfolding Bayed baysAfter bayAt
+  bays-good b l = go (atBay e) (is presetsWord e) refl
+    where
+      new : Bay
+      new = bayAfter (m .setup) e (bayAt (m .bays) (bayOf e))
+
+      n : b < length (m .bays)
+      n = omega (arith, g .four)
+
+      at : atBay e ≡ true → (t : Bool) → eqb (bayOf e) b ≡ t → strayBay (m .setup) b (bayAt (set (m .bays) (bayOf e) new) b) ≡ false
+      at q true r = let z : bayOf e ≡ b = eqb-true _ _ r in rw (z, getD-set-same, n) (here-good b z q)
+      at q false r = rw (getD-set-other (m .bays) (bayOf e) b new emptyBay (λ z. eqb-false _ _ r (sym z))) (g .bays b l)
+
+      go : (t o : Bool) → atBay e ≡ t →
+          strayBay (m .setup) b (bayAt (cond t (set (m .bays) (bayOf e) new) (cond o (allOkWritten (wordOf e) (m .bays)) (m .bays))) b) ≡ false
+      go true o q = at q (eqb (bayOf e) b) refl
+      go false true q = rw (ok-written-at (wordOf e) (m .bays) b l) (ok-good (m .setup) b (wordOf e) (bayAt (m .bays) b) (g .bays b l))
+      go false false q = g .bays b l
+
+  four-after : length (baysAfter (m .setup) (m .bays) e) ≡ 4
+  unfolding baysAfter allOkWritten
+  four-after = go (atBay e) (is presetsWord e)
+    where
+      go : (t o : Bool) →
+          length (cond t (set (m .bays) (bayOf e) (bayAfter (m .setup) e (bayAt (m .bays) (bayOf e)))) (cond o (allOkWritten (wordOf e) (m .bays)) (m .bays))) ≡ 4
+      go true o = rw length-set (g .four)
+      go false true = refl
+      go false false = g .four
+
+-- nibbles: none, a candidate's, the written
+
+none-one : (s : Setup) → One s 0
+unfolding One oneBay
+none-one s = refl
+
+module _ (s : Setup) (bays : List Bay) (g : Bayed s bays) where
+  fits : (n : ℕ) → named n ≡ true → candidate (bayNamed bays n) ≡ true → supports s (bayNumber n) ≡ true
+  unfolding Bayed candidate bayNamed strayBay
+  fits n k c =
+      let c′ : (bayAt bays (bayNumber n) .present && bayAt bays (bayNumber n) .ok && not (bayAt bays (bayNumber n) .low)) ≡ true = rw k at c in
+      let q : bayAt bays (bayNumber n) .present ≡ true = search (and-l, and-r) in
+      not-false _ (or-l _ _ (rw q at (g (bayNumber n) (number-small n))))
+
+  first-one : One s (firstOf bays)
+  unfolding One firstOf oneBay named bayNumber
+  first-one =
+      choose (One s) _ 1 _ (fits 1 refl)
+      (λ _. choose (One s) _ 2 _ (fits 2 refl)
+      (λ _. choose (One s) _ 4 _ (fits 4 refl)
+      (λ _. choose (One s) _ 8 _ (fits 8 refl) (λ _. none-one s))))
+
+  takes-one : (next : ℕ) → One s next → One s (takesOver bays next)
+  unfolding takesOver
+  takes-one next w = choose (One s) (candidate (bayNamed bays next)) _ _ (λ _. w) (λ _. first-one)
+
+module _ (m : Machine) (g : Bayed (m .setup) (m .bays)) (w : One (m .setup) (m .selector .next)) (p : One (m .setup) (m .selector .power)) where
+  power-one : One (m .setup) (settledPower m)
+  unfolding settledPower keptPower
+  power-one =
+      choose (One (m .setup)) (unpowered m) _ _ (λ _. takes-one (m .setup) (m .bays) g (m .selector .next) w)
+      (λ _. choose (One (m .setup)) (candidate (bayNamed (m .bays) (m .selector .power))) _ _ (λ _. p) (λ _. none-one (m .setup)))
+
+  smb-one : One (m .setup) (m .selector .smb) → One (m .setup) (settledSmb m)
+  unfolding settledSmb keptSmb
+  smb-one q =
+      choose (One (m .setup)) (unpowered m && not (eqb (settledPower m) 0)) _ _ (λ _. power-one)
+      (λ _. choose (One (m .setup)) (bayNamed (m .bays) (m .selector .smb) .present) _ _ (λ _. q) (λ _. none-one (m .setup)))
+
+module _ (m : Machine) (e : Event) (p : Passes m e) (g : Good m) where
+  -- each nibble of a SelectorState word is 0xF or has the form
+  state-formed : is stateWord e ≡ true →
+      (formed (m .setup) (smbIn (wordOf e)) ≡ true) × (formed (m .setup) (powerIn (wordOf e)) ≡ true) × (formed (m .setup) (chargeIn (wordOf e)) ≡ true)
+  unfolding badNibble stateFormed
+  state-formed q =
+      let f : stateFormed (m .setup) (wordOf e) ≡ true = not-false _ (and-then (is stateWord e) _ (or-l _ (is presetsWord e && not (oneBay (m .setup) (nextIn (wordOf e)))) (p .formed)) q) in
+      (search (and-l, and-r), search (and-l, and-r), search (and-l, and-r))
+
+  presets-formed : is presetsWord e ≡ true → One (m .setup) (nextIn (wordOf e))
+  unfolding badNibble One
+  presets-formed q = not-false _ (and-then (is presetsWord e) _ (or-r (is stateWord e && not (stateFormed (m .setup) (wordOf e))) _ (p .formed)) q)
+
+  formed-one : (n : ℕ) → formed (m .setup) n ≡ true → eqb n 15 ≡ false → One (m .setup) n
+  unfolding formed One
+  formed-one n q r = or-then (eqb n 15) (oneBay (m .setup) n) q r
+
+  written-one : (n old : ℕ) → (is stateWord e ≡ true → formed (m .setup) n ≡ true) → One (m .setup) old → is stateWord e ≡ true → One (m .setup) (written n old)
+  unfolding written
+  written-one n old f o q = choose (One (m .setup)) (eqb n 15) _ _ (λ _. o) (formed-one n (f q))
+
+  smb-after : One (m .setup) (smbAfter m e)
+  unfolding smbAfter
+  smb-after = choose (One (m .setup)) (is stateWord e) _ _ (written-one _ _ (λ q. state-formed q .0) (g .smb)) (λ _. g .smb)
+
+  power-after : One (m .setup) (powerAfter m e)
+  unfolding powerAfter
+  power-after =
+      choose (One (m .setup)) (is stateWord e) _ _ (written-one _ _ (λ q. state-formed q .1) (g .power))
+      (λ _. choose (One (m .setup)) (acArrives m e) _ _ (λ _. none-one _) (λ _. g .power))
+
+  charge-after : One (m .setup) (chargeAfter m e)
+  unfolding chargeAfter connects
+  charge-after =
+      choose (One (m .setup)) (connects e) _ _
+      (λ q. formed-one _ (state-formed (and-l (is stateWord e) _ q) .2) (not-true _ (and-r (is stateWord e) _ q)))
+      (λ _. choose (One (m .setup)) (dropsCharge m e) _ _ (λ _. none-one _) (λ _. g .charge))
+
+  next-after : One (m .setup) (nextAfter m e)
+  unfolding nextAfter
+  next-after = choose (One (m .setup)) (is presetsWord e) _ _ presets-formed (λ _. g .next)
+
+  good-step : Good (settle (act m e))
+  unfolding settle act
+  good-step =
+      record {
+        setup = g .setup;
+        smb = smb-one (act m e) (bays-good m e p g) next-after power-after smb-after;
+        power = power-one (act m e) (bays-good m e p g) next-after power-after;
+        charge = charge-after;
+        next = next-after;
+        current-age = age-small _ _ _ _ (g .current-age);
+        voltage-age = age-small _ _ _ _ (g .voltage-age);
+        four = four-after m e p g;
+        bays = bays-good m e p g;
+      }
+
+good-power-on : (s : Setup) → goodSetup s ≡ true → Good (powerOn s)
+unfolding powerOn Bayed strayBay
+good-power-on s g =
+    record {
+      setup = g;
+      smb = none-one s;
+      power = none-one s;
+      charge = none-one s;
+      next = none-one s;
+      current-age = omega arith;
+      voltage-age = omega arith;
+      four = refl;
+      bays = λ b l. rw (empty-at s b l);
+    }
+
+pub always-good : AlwaysGood
+always-good s g es = accepted _ (along (λ m h. Good m) (λ m e h p v. good-step m e p v) s (good-power-on s g) es)

@@ -1,0 +1,17 @@
+pub mod Bools
+pub mod Numbers
+pub mod Cell
+pub mod Hold
+pub mod Bays
+pub mod Agrees
+pub mod Passes
+pub mod Along
+pub mod Demand3
+pub mod Exactly
+pub mod Origin
+pub mod Good
+pub mod Heard
+pub mod Supply
+pub mod Computes
+pub mod Computed
+pub mod Theorems

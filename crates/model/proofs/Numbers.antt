@@ -1,0 +1,129 @@
+-- No two refusals have one number, no two answers one value and no two kinds of event one number: each has an inverse.
+use Prim.Native.Nat.{ℕ}
+use mathlib.Core.Path.{_≡_, refl, sym, _∙_, ap}
+use mathlib.Core.List.{List, [], _∷_}
+use lib.ListN.{getD}
+use Rattle.model.specs.declared.Refusal.{Refusal}
+use Rattle.model.specs.declared.Refusal.the-variants.{BadSetup, UnsupportedBay, NoSuchWord, NotChargingBay, BadNibble, SmbElsewhere, NotUsable, SameBay, WrongPresence, RecordCutOff, BadLength, UnknownKind, BadAcByte, NoRoom, BadMachine}
+use Rattle.model.specs.declared.Answer.{Answer}
+use Rattle.model.specs.declared.Answer.the-variants.{Done, Word, Refused}
+use Rattle.model.specs.Numbers.{numberOf, Said, done, word, refused, said}
+use Rattle.model.specs.Events.{Kind, kindNumber, currentWord, voltageWord, alarmWord, modeWord, stateWord, presetsWord, specRead, statusRead, stateRead, presetsRead, infoRead, insertion, removal, signal, terminal, acEvent, tick, noSuchWord}
+use Rattle.model.specs.Promises.{RefusalsApart, AnswersApart, KindsApart}
+
+-- what has an inverse keeps different things apart
+apart : {A B : Type 0} (f : A → B) (g : B → A) → ((x : A) → g (f x) ≡ x) → (x y : A) → f x ≡ f y → x ≡ y
+apart f g back x y q = sym (back x) ∙ ap g q ∙ back y
+
+-- refusals, the first at 1
+
+refusals : List Refusal
+refusals =
+    BadSetup
+    ∷ BadSetup
+    ∷ UnsupportedBay
+    ∷ NoSuchWord
+    ∷ NotChargingBay
+    ∷ BadNibble
+    ∷ SmbElsewhere
+    ∷ NotUsable
+    ∷ SameBay
+    ∷ WrongPresence
+    ∷ RecordCutOff
+    ∷ BadLength
+    ∷ UnknownKind
+    ∷ BadAcByte
+    ∷ NoRoom
+    ∷ BadMachine
+    ∷ []
+
+refusalAt : ℕ → Refusal
+refusalAt n = getD refusals n BadSetup
+
+refusal-back : (r : Refusal) → refusalAt (numberOf r) ≡ r
+unfolding refusalAt refusals
+refusal-back BadSetup = refl
+refusal-back UnsupportedBay = refl
+refusal-back NoSuchWord = refl
+refusal-back NotChargingBay = refl
+refusal-back BadNibble = refl
+refusal-back SmbElsewhere = refl
+refusal-back NotUsable = refl
+refusal-back SameBay = refl
+refusal-back WrongPresence = refl
+refusal-back RecordCutOff = refl
+refusal-back BadLength = refl
+refusal-back UnknownKind = refl
+refusal-back BadAcByte = refl
+refusal-back NoRoom = refl
+refusal-back BadMachine = refl
+
+pub refusals-apart : RefusalsApart
+refusals-apart = apart numberOf refusalAt refusal-back
+
+-- answers
+
+answerOf : Said → Answer
+answerOf done = Done
+answerOf (word w) = Word w
+answerOf (refused n) = Refused (refusalAt n)
+
+answer-back : (x : Answer) → answerOf (said x) ≡ x
+unfolding answerOf
+answer-back Done = refl
+answer-back (Word w) = refl
+answer-back (Refused r) = ap Refused (refusal-back r)
+
+pub answers-apart : AnswersApart
+answers-apart = apart said answerOf answer-back
+
+-- kinds of event, the first at 1
+
+kinds : List Kind
+kinds =
+    noSuchWord
+    ∷ currentWord
+    ∷ voltageWord
+    ∷ alarmWord
+    ∷ modeWord
+    ∷ stateWord
+    ∷ presetsWord
+    ∷ specRead
+    ∷ statusRead
+    ∷ stateRead
+    ∷ presetsRead
+    ∷ infoRead
+    ∷ insertion
+    ∷ removal
+    ∷ signal
+    ∷ terminal
+    ∷ acEvent
+    ∷ tick
+    ∷ []
+
+kindAt : ℕ → Kind
+kindAt n = getD kinds n noSuchWord
+
+kind-back : (k : Kind) → kindAt (kindNumber k) ≡ k
+unfolding kindAt kinds kindNumber
+kind-back currentWord = refl
+kind-back voltageWord = refl
+kind-back alarmWord = refl
+kind-back modeWord = refl
+kind-back stateWord = refl
+kind-back presetsWord = refl
+kind-back specRead = refl
+kind-back statusRead = refl
+kind-back stateRead = refl
+kind-back presetsRead = refl
+kind-back infoRead = refl
+kind-back insertion = refl
+kind-back removal = refl
+kind-back signal = refl
+kind-back terminal = refl
+kind-back acEvent = refl
+kind-back tick = refl
+kind-back noSuchWord = refl
+
+pub kinds-apart : KindsApart
+kinds-apart = apart kindNumber kindAt kind-back

@@ -1,0 +1,58 @@
+-- With AC absent POWER_BY is without a bay exactly when no candidate exists.
+use Prim.Native.Nat.{ℕ, _<_}
+use mathlib.Core.Path.{_≡_, refl, sym, _∙_}
+use mathlib.Core.Logic.{_↔_}
+use mathlib.Core.Bool.{Bool, true, false, not, cond, _&&_, true≢false, false≢true}
+use mathlib.Core.List.{List}
+use lib.Dec.{eqb}
+use Rattle.model.specs.declared.Bay.{Bay}
+use Rattle.model.specs.declared.Machine.{Machine}
+use Rattle.model.specs.Words.{named, bayNumber}
+use Rattle.model.specs.Bays.{emptyBay, bayAt, bayNamed, candidate}
+use Rattle.model.specs.Machines.{powerOn, act}
+use Rattle.model.specs.Settling.{keptPower, unpowered, firstOf, takesOver, settledPower, settle}
+use Rattle.model.specs.Promises.{SupplyKept}
+use Rattle.model.proofs.Bools.{choose}
+use Rattle.model.proofs.Bays.{below-four, empty-at, number-small}
+use Rattle.model.proofs.Along.{along}
+
+-- the nibble n is 0 exactly when no bay is a candidate
+abbrev Tells : List Bay → ℕ → Type 0
+Tells bays n = (n ≡ 0) ↔ ((b : ℕ) → b < 4 → candidate (bayAt bays b) ≡ false)
+
+module _ (bays : List Bay) where
+  by-candidate : (n : ℕ) → candidate (bayNamed bays n) ≡ true → Tells bays n
+  unfolding bayNamed candidate named
+  by-candidate n = go (named n) refl
+    where
+      go : (t : Bool) → named n ≡ t → candidate (cond t (bayAt bays (bayNumber n)) emptyBay) ≡ true → Tells bays n
+      go true k c = (λ z. absurd (false≢true (rw z at k)), λ none. absurd (true≢false (sym c ∙ none (bayNumber n) (number-small n))))
+      go false k c = absurd (false≢true c)
+
+  by-first : Tells bays (firstOf bays)
+  unfolding firstOf bayNamed named bayNumber
+  by-first =
+      choose (Tells bays) (candidate (bayNamed bays 1)) 1 _ (by-candidate 1)
+      (λ q₀. choose (Tells bays) (candidate (bayNamed bays 2)) 2 _ (by-candidate 2)
+      (λ q₁. choose (Tells bays) (candidate (bayNamed bays 4)) 4 _ (by-candidate 4)
+      (λ q₂. choose (Tells bays) (candidate (bayNamed bays 8)) 8 _ (by-candidate 8)
+      (λ q₃. (λ _. below-four (λ b. candidate (bayAt bays b) ≡ false) q₀ q₁ q₂ q₃, λ _. refl)))))
+
+  by-taking : (wanted : ℕ) → Tells bays (takesOver bays wanted)
+  unfolding takesOver
+  by-taking wanted = choose (Tells bays) (candidate (bayNamed bays wanted)) wanted _ (by-candidate wanted) (λ _. by-first)
+
+settled : (m : Machine) → m .ac ≡ false → Tells (m .bays) (settledPower m)
+unfolding settledPower unpowered keptPower
+settled m q =
+    choose (Tells (m .bays)) (unpowered m) _ _ (λ _. by-taking (m .bays) (m .selector .next))
+    (kept (candidate (bayNamed (m .bays) (m .selector .power))) refl)
+  where
+    kept : (t : Bool) → candidate (bayNamed (m .bays) (m .selector .power)) ≡ t →
+        (eqb (cond t (m .selector .power) 0) 0 && not (m .ac)) ≡ false → Tells (m .bays) (cond t (m .selector .power) 0)
+    kept true c u = by-candidate (m .bays) (m .selector .power) c
+    kept false c u = absurd (true≢false (rw q at u))
+
+pub supply-kept : SupplyKept
+unfolding settle act powerOn candidate
+supply-kept s = along (λ m h. m .ac ≡ false → Tells (m .bays) (m .selector .power)) (λ m e h p a. settled (act m e)) s (λ _. (λ _ b l. rw (empty-at s b l), λ _. refl))

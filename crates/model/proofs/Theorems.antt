@@ -1,0 +1,56 @@
+-- Every promise of `specs/Promises.antt`, proved: a line each, with the file that has the argument.
+use Rattle.model.specs.Promises.{OutputIsTold, ExactlyEight, CutToTheLimits, CountedFrom, RunsOut, RefusalChangesNothing, AlwaysGood, Never15, TicksAndAcHeard, RefusalsApart, AnswersApart, KindsApart, SupplyKept, TableHolds, WorkedRunsHold}
+use Rattle.model.proofs.Demand3
+use Rattle.model.proofs.Exactly
+use Rattle.model.proofs.Origin
+use Rattle.model.proofs.Passes
+use Rattle.model.proofs.Good
+use Rattle.model.proofs.Heard
+use Rattle.model.proofs.Numbers
+use Rattle.model.proofs.Supply
+use Rattle.model.proofs.Computed
+
+pub output-is-told : OutputIsTold
+output-is-told = Demand3.output-is-told
+
+pub exactly-eight : ExactlyEight
+exactly-eight = Exactly.exactly-eight
+
+pub cut-to-the-limits : CutToTheLimits
+cut-to-the-limits = Exactly.cut-to-the-limits
+
+pub counted-from : CountedFrom
+counted-from = Origin.counted-from
+
+pub runs-out : RunsOut
+runs-out = Exactly.runs-out
+
+pub refusal-changes-nothing : RefusalChangesNothing
+refusal-changes-nothing = Passes.refusal-changes-nothing
+
+pub always-good : AlwaysGood
+always-good = Good.always-good
+
+pub never-15 : Never15
+never-15 = Heard.never-15
+
+pub ticks-and-ac-heard : TicksAndAcHeard
+ticks-and-ac-heard = Heard.ticks-and-ac-heard
+
+pub refusals-apart : RefusalsApart
+refusals-apart = Numbers.refusals-apart
+
+pub answers-apart : AnswersApart
+answers-apart = Numbers.answers-apart
+
+pub kinds-apart : KindsApart
+kinds-apart = Numbers.kinds-apart
+
+pub supply-kept : SupplyKept
+supply-kept = Supply.supply-kept
+
+pub table-holds : TableHolds
+table-holds = Computed.table-holds
+
+pub worked-runs-hold : WorkedRunsHold
+worked-runs-hold = (Computed.listing-comes, Computed.status-comes, Computed.selecting-comes)

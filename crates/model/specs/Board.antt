@@ -1,0 +1,51 @@
+-- The analogue board's two rules: how a request is limited, and what a reading of the safety signal means.
+use Prim.Native.Nat.{ℕ, min, _+_, _^_}
+use mathlib.Core.Bool.{Bool, true, false}
+use lib.Dec.{ltb, eqb}
+use Rattle.model.specs.declared.Limit.{Limit}
+use Rattle.model.specs.declared.Reading.{Reading}
+use Rattle.model.specs.declared.Reading.the-variants.{Unread, Ohms}
+use Rattle.model.specs.declared.Class.{Class}
+use Rattle.model.specs.declared.Class.the-variants.{Under, Hot, Plain, Cold, Over}
+use Rattle.model.specs.declared.Output.{Output}
+use Rattle.model.specs.If.{if_then_else_}
+
+-- request 65535 gives the safe value; otherwise the smaller of request and largest
+unfoldable pub limited : Limit → ℕ → ℕ
+limited l request = if eqb request 65535 then l .safe else min request (l .largest)
+
+abbrev pub noOutput : Output
+noOutput = record { milliamps = 0; millivolts = 0 }
+
+-- below 500; 500 to 2999; 3000 to 30000; 30001 to 100000; above 100000
+unfoldable pub classOf : ℕ → Class
+classOf ohms =
+    if ltb ohms 500 then Under
+    else if ltb ohms 3000 then Hot
+    else if ltb ohms 30001 then Plain
+    else if ltb ohms 100001 then Cold
+    else Over
+
+-- unread counts as over range
+abbrev pub classRead : Reading → Class
+classRead Unread = Over
+classRead (Ohms ohms) = classOf ohms
+
+-- charging is allowed in plain and COLD
+abbrev pub allowed : Class → Bool
+allowed Under = false
+allowed Hot = false
+allowed Plain = true
+allowed Cold = true
+allowed Over = false
+
+unfoldable pub allows : Reading → Bool
+allows r = allowed (classRead r)
+
+-- the status bits 8 OR, 9 COLD, 10 HOT, 11 UR of a class
+abbrev pub classBits : Class → ℕ
+classBits Under = 2 ^ 10 + 2 ^ 11
+classBits Hot = 2 ^ 10
+classBits Plain = 0
+classBits Cold = 2 ^ 9
+classBits Over = 2 ^ 8 + 2 ^ 9

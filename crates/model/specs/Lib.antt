@@ -1,0 +1,20 @@
+-- In the order to read them.
+pub mod If
+pub mod Numbers
+pub mod Words
+pub mod Board
+pub mod Events
+pub mod Bays
+pub mod SelectorRules
+pub mod ChargerRules
+pub mod Machines
+pub mod Settling
+pub mod Reads
+pub mod Refusals
+pub mod Step
+pub mod Facts
+pub mod Runs
+pub mod Origin
+pub mod Table
+pub mod Worked
+pub mod Promises

@@ -1,0 +1,57 @@
+-- Whole machines: at power-on, after an accepted event, and with one part anew. No other file writes a machine or a setup out field by field.
+use mathlib.Core.Bool.{Bool, false}
+use mathlib.Core.List.{List, [], _∷_}
+use Rattle.model.specs.declared.Setup.{Setup}
+use Rattle.model.specs.declared.Bay.{Bay}
+use Rattle.model.specs.declared.Request.{Request}
+use Rattle.model.specs.declared.Charger.{Charger}
+use Rattle.model.specs.declared.Selector.{Selector}
+use Rattle.model.specs.declared.Machine.{Machine}
+use Rattle.model.specs.declared.Event.{Event}
+use Rattle.model.specs.Bays.{emptyBay, baysAfter}
+use Rattle.model.specs.SelectorRules.{acAfter, smbAfter, powerAfter, chargeAfter, nextAfter, noticeAfter}
+use Rattle.model.specs.ChargerRules.{fresh, chargerAfter}
+
+-- the program's setup: bays 3, current 3000/2000, voltage 18000/16800 (largest/safe), 9000, 10500
+abbrev pub programSetup : Setup
+programSetup =
+    record {
+      supported = 3;
+      current = record { largest = 3000; safe = 2000 };
+      voltage = record { largest = 18000; safe = 16800 };
+      low = 9000;
+      restart = 10500;
+    }
+
+abbrev pub noRequest : Request
+noRequest = record { word = 0; age = 0; mark = false }
+
+-- AC absent, all bays empty, all nibbles, requests, ages and marks 0, notice 0, charging not inhibited
+unfoldable pub powerOn : Setup → Machine
+powerOn s =
+    record {
+      setup = s;
+      bays = emptyBay ∷ emptyBay ∷ emptyBay ∷ emptyBay ∷ [];
+      charger = record { current = noRequest; voltage = noRequest; hold = false; inhibit = false };
+      selector = record { smb = 0; power = 0; charge = 0; next = 0 };
+      ac = false;
+      notice = false;
+    }
+
+-- every register after an accepted event, before the machine settles
+unfoldable pub act : Machine → Event → Machine
+act m e =
+    record {
+      setup = m .setup;
+      bays = baysAfter (m .setup) (m .bays) e;
+      charger = chargerAfter (fresh m e) (m .charger) e;
+      selector = record { smb = smbAfter m e; power = powerAfter m e; charge = chargeAfter m e; next = nextAfter m e };
+      ac = acAfter m e;
+      notice = noticeAfter m e;
+    }
+
+abbrev pub withSelector : Machine → Selector → Machine
+withSelector m x = record { setup = m .setup; bays = m .bays; charger = m .charger; selector = x; ac = m .ac; notice = m .notice }
+
+abbrev pub withNotice : Machine → Bool → Machine
+withNotice m x = record { setup = m .setup; bays = m .bays; charger = m .charger; selector = m .selector; ac = m .ac; notice = x }

@@ -1,0 +1,101 @@
+-- What is promised of the model, statement by statement. `proofs/Theorems.antt` proves each under its own name.
+use Prim.Native.Nat.{ℕ, _≤_, _<_}
+use mathlib.Core.Path.{_≡_}
+use mathlib.Core.Logic.{_↔_, _⊎_}
+use mathlib.Core.Bool.{Bool, true, false}
+use mathlib.Core.List.{List}
+use Rattle.model.specs.declared.Setup.{Setup}
+use Rattle.model.specs.declared.Event.{Event}
+use Rattle.model.specs.declared.Event.the-variants.{Ac, Tick}
+use Rattle.model.specs.declared.Machine.{Machine}
+use Rattle.model.specs.declared.Answer.{Answer}
+use Rattle.model.specs.declared.Refusal.{Refusal}
+use Rattle.model.specs.Numbers.{numberOf, done, refused, said}
+use Rattle.model.specs.Board.{noOutput}
+use Rattle.model.specs.Events.{Kind, currentWord, voltageWord, kindNumber}
+use Rattle.model.specs.Bays.{bayAt, candidate}
+use Rattle.model.specs.Machines.{programSetup, powerOn}
+use Rattle.model.specs.Reads.{output}
+use Rattle.model.specs.Refusals.{goodSetup, badMachine}
+use Rattle.model.specs.Step.{stepSpec}
+use Rattle.model.specs.Facts.{ticksSince, Eight, requested, outputTold}
+use Rattle.model.specs.Runs.{run, past}
+use Rattle.model.specs.Origin.{Counted}
+use Rattle.model.specs.Table.{table, allSeen, allValues}
+use Rattle.model.specs.Worked.{Row, rerun, listing, statusRead, selecting}
+
+-- DEMAND 3, for every setup and every list of events from power-on, refused ones included
+
+-- the output is the one that the facts tell
+abbrev pub OutputIsTold : Type 0
+OutputIsTold = (s : Setup) (es : List Event) → output (run s es) ≡ outputTold s (past s es)
+
+-- it is not zero exactly when all eight facts hold
+abbrev pub ExactlyEight : Type 0
+ExactlyEight = (s : Setup) (es : List Event) → (output (run s es) ≡ noOutput → ⊥) ↔ Eight s (past s es)
+
+-- and then equals the two requests cut to the limits
+abbrev pub CutToTheLimits : Type 0
+CutToTheLimits = (s : Setup) (es : List Event) → Eight s (past s es) → output (run s es) ≡ requested s (past s es)
+
+-- every counted request came from the host, or from the pack now in the charging bay, after it was put in and connected
+abbrev pub CountedFrom : Type 0
+CountedFrom = (s : Setup) (es : List Event) → Eight s (past s es) → Counted currentWord (past s es) × Counted voltageWord (past s es)
+
+-- 175 ticks after the latest accepted current word, or voltage word, the output is zero, whatever else came
+abbrev pub RunsOut : Type 0
+RunsOut =
+    (s : Setup) (es : List Event) →
+    (175 ≤ ticksSince currentWord (past s es)) ⊎ (175 ≤ ticksSince voltageWord (past s es)) →
+    output (run s es) ≡ noOutput
+
+-- REFUSALS
+
+-- a refusal leaves the machine as it stood, whichever it is
+abbrev pub RefusalChangesNothing : Type 0
+RefusalChangesNothing = (m : Machine) (e : Event) (n : ℕ) → stepSpec m e .answer ≡ refused n → stepSpec m e .machine ≡ m
+
+-- from power-on of a good setup every machine is one that 15 accepts, and 15 is never given
+abbrev pub AlwaysGood : Type 0
+AlwaysGood = (s : Setup) → goodSetup s ≡ true → (es : List Event) → badMachine (run s es) ≡ false
+
+abbrev pub Never15 : Type 0
+Never15 = (s : Setup) → goodSetup s ≡ true → (es : List Event) (e : Event) → stepSpec (run s es) e .answer ≡ refused 15 → ⊥
+
+-- so no tick and no AC event of such a run is refused: facts (a) and (g) see all of them
+abbrev pub TicksAndAcHeard : Type 0
+TicksAndAcHeard =
+    (s : Setup) → goodSetup s ≡ true → (es : List Event) →
+    (stepSpec (run s es) Tick .answer ≡ done) × ((p : Bool) → stepSpec (run s es) (Ac p) .answer ≡ done)
+
+-- no two refusals have one number, no two answers one value, no two kinds of event one number
+
+abbrev pub RefusalsApart : Type 0
+RefusalsApart = (r q : Refusal) → numberOf r ≡ numberOf q → r ≡ q
+
+abbrev pub AnswersApart : Type 0
+AnswersApart = (x y : Answer) → said x ≡ said y → x ≡ y
+
+abbrev pub KindsApart : Type 0
+KindsApart = (k j : Kind) → kindNumber k ≡ kindNumber j → k ≡ j
+
+-- SUPPLY
+
+-- with AC absent POWER_BY is without a bay exactly when no candidate exists
+abbrev pub SupplyKept : Type 0
+SupplyKept =
+    (s : Setup) (es : List Event) → run s es .ac ≡ false →
+    (run s es .selector .power ≡ 0) ↔ ((b : ℕ) → b < 4 → candidate (bayAt (run s es .bays) b) ≡ false)
+
+-- COMPUTED
+
+-- P1 to P12, one table
+abbrev pub TableHolds : Type 0
+TableHolds = allSeen table ≡ allValues table
+
+-- the worked rows are what comes of their events
+abbrev pub Comes : List Row → Type 0
+Comes rows = rerun (powerOn programSetup) rows ≡ rows
+
+abbrev pub WorkedRunsHold : Type 0
+WorkedRunsHold = Comes listing × Comes statusRead × Comes selecting

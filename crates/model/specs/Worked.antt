@@ -1,0 +1,107 @@
+-- Worked runs of the program's setup from power-on: each event with its answer, and the output in mA and mV and the notice after it.
+use Prim.Native.Nat.{ℕ}
+use mathlib.Core.Bool.{true, false}
+use mathlib.Core.List.{List, [], _∷_}
+use Rattle.model.specs.declared.Machine.{Machine}
+use Rattle.model.specs.declared.Event.{Event}
+use Rattle.model.specs.declared.Event.the-variants.{HostWrite, HostRead, BayWord, Insertion, Removal, Signal, Terminal, Ac}
+use Rattle.model.specs.Numbers.{Said, done, word, refused}
+use Rattle.model.specs.Words.{on}
+use Rattle.model.specs.Reads.{output}
+use Rattle.model.specs.Step.{stepSpec}
+
+pub record Row : Type 0 where
+  pub event : Event
+  pub answer : Said
+  pub milliamps : ℕ
+  pub millivolts : ℕ
+  pub notice : ℕ
+
+abbrev pub row : Event → Said → ℕ → ℕ → ℕ → Row
+row e a ma mv n = record { event = e; answer = a; milliamps = ma; millivolts = mv; notice = n }
+
+-- the row of an answer to e and the machine after it
+unfoldable pub rowOf : Event → Said → Machine → Row
+rowOf e a m = row e a (output m .milliamps) (output m .millivolts) (on 0 (m .notice))
+
+-- the events of the rows, run from the machine m: the rows that come of it
+unfoldable pub rerun : Machine → List Row → List Row
+rerun m [] = []
+rerun m (r ∷ rs) =
+    rowOf (r .event) (stepSpec m (r .event) .answer) (stepSpec m (r .event) .machine) ∷ rerun (stepSpec m (r .event) .machine) rs
+
+-- the paper's listing
+unfoldable pub listing : List Row
+listing =
+    row (Ac true) done 0 0 1
+    ∷ row (Insertion 0) done 0 0 1
+    ∷ row (Signal 0 10000) done 0 0 1
+    ∷ row (HostWrite 0x14 0x01 0xFF1F) done 0 0 1
+    ∷ row (BayWord 0 0x15 16800) done 0 0 1
+    ∷ row (BayWord 0 0x14 1500) done 1500 16800 1
+    ∷ row (HostRead 0x14 0x01) (word 0x0F11) 1500 16800 0
+    ∷ row (BayWord 0 0x16 0x4000) done 0 0 0
+    ∷ row (BayWord 1 0x14 1500) (refused 4) 0 0 0
+    ∷ []
+
+-- its charger words, with ChargerStatus at power-on, after its line 6 and after its line 8
+unfoldable pub statusRead : List Row
+statusRead =
+    row (HostRead 0x12 0x13) (word 0x0310) 0 0 0
+    ∷ row (Ac true) done 0 0 1
+    ∷ row (Insertion 0) done 0 0 1
+    ∷ row (Signal 0 10000) done 0 0 1
+    ∷ row (HostWrite 0x14 0x01 0xFF1F) done 0 0 1
+    ∷ row (BayWord 0 0x15 16800) done 0 0 1
+    ∷ row (BayWord 0 0x14 1500) done 1500 16800 1
+    ∷ row (HostRead 0x12 0x13) (word 0xC010) 1500 16800 1
+    ∷ row (BayWord 0 0x16 0x4000) done 0 0 1
+    ∷ row (HostRead 0x12 0x13) (word 0xD010) 0 0 1
+    ∷ []
+
+unfoldable pub selecting : List Row
+selecting =
+    -- the first pack powers the system, and SMB follows
+    row (Insertion 0) done 0 0 1
+    ∷ row (HostRead 0x14 0x01) (word 0x1101) 0 0 0
+    -- there is nothing to use next until a second pack is in
+    ∷ row (HostRead 0x14 0x02) (word 0x0001) 0 0 0
+    ∷ row (Insertion 1) done 0 0 1
+    ∷ row (HostRead 0x14 0x02) (word 0x0023) 0 0 1
+    -- AC arriving takes the load; AC going leaves power and charge on one bay
+    ∷ row (Ac true) done 0 0 1
+    ∷ row (HostWrite 0x14 0x01 0xFF1F) done 0 0 1
+    ∷ row (Ac false) done 0 0 1
+    ∷ row (HostRead 0x14 0x01) (word 0x1113) 0 0 0
+    -- an SMB-only word is accepted all the same; CHARGE on that bay again is not
+    ∷ row (HostWrite 0x14 0x01 0x1FFF) done 0 0 0
+    ∷ row (HostWrite 0x14 0x01 0xFF1F) (refused 8) 0 0 0
+    ∷ row (HostWrite 0x14 0x01 0x10FF) (refused 7) 0 0 0
+    ∷ row (HostWrite 0x14 0x01 0x21FF) (refused 6) 0 0 0
+    ∷ row (HostWrite 0x14 0x01 0x31FF) (refused 5) 0 0 0
+    -- no bay OK: CHARGE and POWER_BY fall to 0, SMB stays with its pack
+    ∷ row (HostWrite 0x14 0x02 0x0020) done 0 0 1
+    ∷ row (HostRead 0x14 0x01) (word 0x1003) 0 0 0
+    -- 0xF in OK_TO_USE is no mask: both bays are OK again, and the wanted bay is taken
+    ∷ row (HostWrite 0x14 0x02 0x002F) done 0 0 1
+    ∷ row (HostRead 0x14 0x01) (word 0x2203) 0 0 0
+    ∷ row (HostRead 0x14 0x02) (word 0x0013) 0 0 0
+    -- below low the bay is left; between low and restart nothing changes; at restart it may follow again
+    ∷ row (Terminal 1 8999) done 0 0 1
+    ∷ row (HostRead 0x14 0x01) (word 0x1103) 0 0 0
+    ∷ row (Terminal 1 10499) done 0 0 0
+    ∷ row (HostRead 0x14 0x02) (word 0x0003) 0 0 0
+    ∷ row (Terminal 1 10500) done 0 0 0
+    ∷ row (HostRead 0x14 0x02) (word 0x0023) 0 0 0
+    -- the power bay's pack is pulled
+    ∷ row (Removal 0) done 0 0 1
+    ∷ row (HostRead 0x14 0x01) (word 0x2202) 0 0 0
+    -- 2 comes before 9, 3 before 4
+    ∷ row (Removal 2) (refused 2) 0 0 0
+    ∷ row (Removal 0) (refused 9) 0 0 0
+    ∷ row (BayWord 0 0x12 0) (refused 3) 0 0 0
+    ∷ row (BayWord 0 0x14 1500) (refused 4) 0 0 0
+    ∷ row (HostRead 0x14 0x03) (refused 3) 0 0 0
+    ∷ row (HostRead 0x12 0x11) (word 0x0002) 0 0 0
+    ∷ row (HostRead 0x14 0x04) (word 0x0113) 0 0 0
+    ∷ []

@@ -1,0 +1,145 @@
+// The types that every other crate speaks of: a setup, a machine, its events and its answers.
+ghost use mathlib.Core.Path.{_≡_};
+ghost use Rattle.model.specs.Numbers.{numberOf};
+
+// The largest value of a request, and the value that a request of 65535 gives.
+pub struct Limit {
+    pub largest: u16,
+    pub safe: u16,
+}
+
+// What is fixed when the shelf is built: the supported bays as a nibble, the two limits in mA and mV, and the terminal
+// voltages in mV that set and clear a bay's low mark.
+pub struct Setup {
+    pub supported: u16,
+    pub current: Limit,
+    pub voltage: Limit,
+    pub low: u16,
+    pub restart: u16,
+}
+
+// The safety signal of a bay since its pack was put in.
+pub enum Reading {
+    Unread,
+    Ohms(u32),
+}
+
+// What the analogue board makes of a safety signal: under range and hot, hot, plain, cold, over range and cold.
+pub enum Class {
+    Under,
+    Hot,
+    Plain,
+    Cold,
+    Over,
+}
+
+pub struct Bay {
+    pub present: bool,
+    pub ok: bool,
+    pub low: bool,
+    pub reading: Reading,
+}
+
+// A request for current or voltage: the word, its age in ticks, and its rewrite mark.
+pub struct Request {
+    pub word: u16,
+    pub age: u16,
+    pub mark: bool,
+}
+
+pub struct Charger {
+    pub current: Request,
+    pub voltage: Request,
+    pub hold: bool,
+    pub inhibit: bool,
+}
+
+// The four nibbles SMB, POWER_BY, CHARGE and USE_NEXT: each 0 or the bit of one bay.
+pub struct Selector {
+    pub smb: u16,
+    pub power: u16,
+    pub charge: u16,
+    pub next: u16,
+}
+
+pub struct Machine {
+    pub setup: Setup,
+    pub bays: [Bay; 4],
+    pub charger: Charger,
+    pub selector: Selector,
+    pub ac: bool,
+    pub notice: bool,
+}
+
+pub enum Event {
+    HostWrite { address: u8, code: u8, word: u16 },
+    HostRead { address: u8, code: u8 },
+    BayWord { bay: u8, code: u8, word: u16 },
+    Insertion { bay: u8 },
+    Removal { bay: u8 },
+    Signal { bay: u8, ohms: u32 },
+    Terminal { bay: u8, millivolts: u16 },
+    Ac { present: bool },
+    Tick,
+}
+
+// Why something is refused, in the order of the paper's numbers 1 to 15.
+pub enum Refusal {
+    BadSetup,
+    UnsupportedBay,
+    NoSuchWord,
+    NotChargingBay,
+    BadNibble,
+    SmbElsewhere,
+    NotUsable,
+    SameBay,
+    WrongPresence,
+    RecordCutOff,
+    BadLength,
+    UnknownKind,
+    BadAcByte,
+    NoRoom,
+    BadMachine,
+}
+
+// Done, a word that was read, or a refusal.
+pub enum Answer {
+    Done,
+    Word(u16),
+    Refused(Refusal),
+}
+
+// An answer beside the machine after it.
+pub struct Stepped {
+    pub answer: Answer,
+    pub machine: Machine,
+}
+
+// What the charger supplies: both values, or 0 and 0.
+pub struct Output {
+    pub milliamps: u16,
+    pub millivolts: u16,
+}
+
+// The paper's number of a refusal.
+pub fn number(refusal: Refusal) -> u8
+    ensures { λ n. ⌜ n ≡ numberOf refusal ⌝ }
+{
+    match refusal {
+        Refusal::BadSetup => 1,
+        Refusal::UnsupportedBay => 2,
+        Refusal::NoSuchWord => 3,
+        Refusal::NotChargingBay => 4,
+        Refusal::BadNibble => 5,
+        Refusal::SmbElsewhere => 6,
+        Refusal::NotUsable => 7,
+        Refusal::SameBay => 8,
+        Refusal::WrongPresence => 9,
+        Refusal::RecordCutOff => 10,
+        Refusal::BadLength => 11,
+        Refusal::UnknownKind => 12,
+        Refusal::BadAcByte => 13,
+        Refusal::NoRoom => 14,
+        Refusal::BadMachine => 15,
+    }
+}
