@@ -15,8 +15,8 @@ use Rattle.model.specs.Promises.{OutputIsTold}
 use Rattle.model.specs.Runs.{run, past}
 use Rattle.model.proofs.Bools.{and-l, and-r, and-swap}
 use Rattle.model.proofs.Bays.{present-at, signal-at}
-use Rattle.model.proofs.Along.{along}
-use Rattle.model.proofs.Agrees.{Agrees, agrees-step, agrees-power-on}
+use Rattle.model.proofs.Induction.{along}
+use Rattle.model.proofs.Registers.{Agrees, agrees-step, agrees-power-on}
 
 -- the machine of a run agrees with the run's past
 pub agrees : (s : Setup) (es : List Event) → Agrees s (run s es) (past s es)

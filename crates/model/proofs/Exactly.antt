@@ -21,7 +21,7 @@ use Rattle.model.specs.Promises.{ExactlyEight, CutToTheLimits, RunsOut}
 use Rattle.model.specs.Runs.{run, past}
 use Rattle.model.proofs.Bools.{and-l, and-r, or-l}
 use Rattle.model.proofs.Passes.{Passes}
-use Rattle.model.proofs.Along.{along}
+use Rattle.model.proofs.Induction.{along}
 use Rattle.model.proofs.Demand3.{agrees, eight, eight⁻¹, output-is-told}
 
 -- the limit rule gives 0 only for the request 0

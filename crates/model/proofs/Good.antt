@@ -25,7 +25,7 @@ use Rattle.model.specs.Runs.{run}
 use Rattle.model.specs.Promises.{AlwaysGood}
 use Rattle.model.proofs.Bools.{choose, and-l, and-r, or-l, or-r, or-then, and-then}
 use Rattle.model.proofs.Passes.{Passes}
-use Rattle.model.proofs.Along.{along}
+use Rattle.model.proofs.Induction.{along}
 use Rattle.model.proofs.Bays.{ok-written-at, empty-at, number-small}
 
 -- 0 or one supported bay

@@ -1,17 +1,19 @@
+-- In the order in which they build on each other.
 pub mod Bools
 pub mod Numbers
+pub mod Computes
+pub mod ByComputing
+pub mod Passes
+pub mod Induction
+pub mod Bays
 pub mod Cell
 pub mod Hold
-pub mod Bays
-pub mod Agrees
-pub mod Passes
-pub mod Along
+pub mod Registers
 pub mod Demand3
 pub mod Exactly
 pub mod Origin
 pub mod Good
 pub mod Heard
-pub mod Supply
-pub mod Computes
-pub mod Computed
+pub mod Candidates
 pub mod Theorems
+pub mod Unique

@@ -19,8 +19,8 @@ use Rattle.model.specs.Origin.{Undisturbed, Counted}
 use Rattle.model.specs.Promises.{CountedFrom}
 use Rattle.model.proofs.Bools.{or-l, or-r, and-then}
 use Rattle.model.proofs.Passes.{Passes}
-use Rattle.model.proofs.Along.{along}
-use Rattle.model.proofs.Agrees.{Agrees, agrees-step, agrees-power-on, asked-step}
+use Rattle.model.proofs.Induction.{along}
+use Rattle.model.proofs.Registers.{Agrees, agrees-step, agrees-power-on, asked-step}
 
 -- every bay word of a past came from the bay that was connected then
 abbrev Lawful : Past → Type 0

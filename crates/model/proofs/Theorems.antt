@@ -1,5 +1,5 @@
 -- Every promise of `specs/Promises.antt`, proved: a line each, with the file that has the argument.
-use Rattle.model.specs.Promises.{OutputIsTold, ExactlyEight, CutToTheLimits, CountedFrom, RunsOut, RefusalChangesNothing, AlwaysGood, Never15, TicksAndAcHeard, RefusalsApart, AnswersApart, KindsApart, SupplyKept, TableHolds, WorkedRunsHold}
+use Rattle.model.specs.Promises.{OutputIsTold, ExactlyEight, CutToTheLimits, CountedFrom, RunsOut, RefusalChangesNothing, AlwaysGood, Never15, TicksAndAcHeard, RefusalsApart, AnswersApart, KindsApart, SupplyKept, TableHolds, TimersHold, WorkedRunsHold}
 use Rattle.model.proofs.Demand3
 use Rattle.model.proofs.Exactly
 use Rattle.model.proofs.Origin
@@ -7,8 +7,8 @@ use Rattle.model.proofs.Passes
 use Rattle.model.proofs.Good
 use Rattle.model.proofs.Heard
 use Rattle.model.proofs.Numbers
-use Rattle.model.proofs.Supply
-use Rattle.model.proofs.Computed
+use Rattle.model.proofs.Candidates
+use Rattle.model.proofs.ByComputing
 
 pub output-is-told : OutputIsTold
 output-is-told = Demand3.output-is-told
@@ -47,10 +47,13 @@ pub kinds-apart : KindsApart
 kinds-apart = Numbers.kinds-apart
 
 pub supply-kept : SupplyKept
-supply-kept = Supply.supply-kept
+supply-kept = Candidates.supply-kept
 
 pub table-holds : TableHolds
-table-holds = Computed.table-holds
+table-holds = ByComputing.table-holds
+
+pub timers-hold : TimersHold
+timers-hold = ByComputing.timers-hold
 
 pub worked-runs-hold : WorkedRunsHold
-worked-runs-hold = (Computed.listing-comes, Computed.status-comes, Computed.selecting-comes)
+worked-runs-hold = (ByComputing.listing-comes, ByComputing.status-comes, ByComputing.charger-comes, ByComputing.selector-comes)

@@ -21,8 +21,8 @@ use Rattle.model.specs.Step.{stepSpec}
 use Rattle.model.specs.Facts.{ticksSince, Eight, requested, outputTold}
 use Rattle.model.specs.Runs.{run, past}
 use Rattle.model.specs.Origin.{Counted}
-use Rattle.model.specs.Table.{table, allSeen, allValues}
-use Rattle.model.specs.Worked.{Row, rerun, listing, statusRead, selecting}
+use Rattle.model.specs.Table.{table, timers, allSeen, allValues}
+use Rattle.model.specs.Worked.{Row, rerun, listing, statusRead, chargerAtWork, selectorAtWork}
 
 -- DEMAND 3, for every setup and every list of events from power-on, refused ones included
 
@@ -93,9 +93,12 @@ SupplyKept =
 abbrev pub TableHolds : Type 0
 TableHolds = allSeen table ≡ allValues table
 
+abbrev pub TimersHold : Type 0
+TimersHold = allSeen timers ≡ allValues timers
+
 -- the worked rows are what comes of their events
 abbrev pub Comes : List Row → Type 0
 Comes rows = rerun (powerOn programSetup) rows ≡ rows
 
 abbrev pub WorkedRunsHold : Type 0
-WorkedRunsHold = Comes listing × Comes statusRead × Comes selecting
+WorkedRunsHold = Comes listing × Comes statusRead × Comes chargerAtWork × Comes selectorAtWork

@@ -48,6 +48,16 @@ table =
     ∷ record { events = []; look = info; value = 0x0113 }
     ∷ []
 
+-- each request has a timer of its own, which only its own word restarts
+unfoldable pub timers : List Case
+timers =
+    record { events = charge 10000 1500 ++ replicate 174 Tick ++ BayWord 0 0x14 1500 ∷ Tick ∷ []; look = current; value = 0 }
+    ∷ record { events = charge 10000 1500 ++ replicate 174 Tick ++ BayWord 0 0x15 16800 ∷ Tick ∷ []; look = current; value = 0 }
+    ∷ record { events = charge 10000 1500 ++ replicate 174 Tick ++ BayWord 0 0x14 1400 ∷ BayWord 0 0x15 16800 ∷ Tick ∷ []; look = current; value = 1400 }
+    -- a request that ran out can be made anew
+    ∷ record { events = charge 10000 1500 ++ replicate 180 Tick ++ BayWord 0 0x14 1400 ∷ BayWord 0 0x15 16800 ∷ []; look = current; value = 1400 }
+    ∷ []
+
 -- what is seen in each case, and what should be
 
 unfoldable pub allSeen : List Case → List ℕ

@@ -59,8 +59,63 @@ statusRead =
     ∷ row (HostRead 0x12 0x13) (word 0xD010) 0 0 1
     ∷ []
 
-unfoldable pub selecting : List Row
-selecting =
+-- the charger at work on two packs
+unfoldable pub chargerAtWork : List Row
+chargerAtWork =
+    row (Ac true) done 0 0 1
+    ∷ row (Insertion 0) done 0 0 1
+    ∷ row (Signal 0 10000) done 0 0 1
+    ∷ row (Insertion 1) done 0 0 1
+    ∷ row (Signal 1 50000) done 0 0 1
+    ∷ row (HostWrite 0x14 0x01 0xFF1F) done 0 0 1
+    ∷ row (BayWord 0 0x14 1500) done 0 0 1
+    ∷ row (BayWord 0 0x15 16800) done 1500 16800 1
+    -- CHARGE moves from A to B: the requests are not kept, and A's pack is not heard
+    ∷ row (HostWrite 0x14 0x01 0xFF2F) done 0 0 1
+    ∷ row (BayWord 0 0x14 1500) (refused 4) 0 0 1
+    ∷ row (HostWrite 0x12 0x15 18001) done 0 0 1
+    -- 65535 gives the safe value, and counts as above the largest
+    ∷ row (HostWrite 0x12 0x14 65535) done 2000 18000 1
+    ∷ row (HostRead 0x12 0x13) (word 0xC2D0) 2000 18000 1
+    -- naming the connected bay again leaves its pack connected from before
+    ∷ row (HostWrite 0x14 0x01 0xFF2F) done 2000 18000 1
+    -- an alarm: both words rewritten, zeros too, lift the hold
+    ∷ row (BayWord 1 0x16 0x1000) done 0 0 1
+    ∷ row (BayWord 1 0x14 0) done 0 0 1
+    ∷ row (BayWord 1 0x14 1500) done 0 0 1
+    ∷ row (BayWord 1 0x15 16800) done 1500 16800 1
+    -- an AlarmWarning with none of the bits lifts it too
+    ∷ row (BayWord 1 0x16 0x8000) done 0 0 1
+    ∷ row (BayWord 1 0x16 0x0FFF) done 1500 16800 1
+    -- bit 3 of ChargerMode zeroes both requests; bit 0 inhibits until a word with bit 0 clear or POR_RESET
+    ∷ row (HostWrite 0x12 0x12 0x0008) done 0 0 1
+    ∷ row (BayWord 1 0x14 1500) done 0 0 1
+    ∷ row (BayWord 1 0x15 16800) done 1500 16800 1
+    ∷ row (HostWrite 0x12 0x12 0x0001) done 0 0 1
+    ∷ row (HostWrite 0x12 0x12 0x0000) done 1500 16800 1
+    ∷ row (HostWrite 0x12 0x12 0x000D) done 0 0 1
+    ∷ row (HostRead 0x12 0x13) (word 0xC210) 0 0 1
+    -- AC going is a fresh start; AC arriving is none: words sent without AC begin to charge
+    ∷ row (HostWrite 0x12 0x14 1500) done 0 0 1
+    ∷ row (HostWrite 0x12 0x15 16800) done 1500 16800 1
+    ∷ row (Ac false) done 0 0 1
+    ∷ row (HostWrite 0x12 0x14 1400) done 0 0 1
+    ∷ row (HostWrite 0x12 0x15 16700) done 0 0 1
+    ∷ row (Ac true) done 1400 16700 1
+    -- a pack is pulled and put back at the CHARGE bay: it stays connected, with nothing asked and nothing read
+    ∷ row (Removal 1) done 0 0 1
+    ∷ row (Insertion 1) done 0 0 1
+    ∷ row (BayWord 1 0x14 1500) done 0 0 1
+    ∷ row (BayWord 1 0x15 16800) done 0 0 1
+    ∷ row (Signal 1 3000) done 1500 16800 1
+    -- a Presets word without its OK bit connects none
+    ∷ row (HostWrite 0x14 0x02 0x0001) done 0 0 1
+    ∷ row (BayWord 1 0x14 1500) (refused 4) 0 0 1
+    ∷ []
+
+-- the selector at work on two packs
+unfoldable pub selectorAtWork : List Row
+selectorAtWork =
     -- the first pack powers the system, and SMB follows
     row (Insertion 0) done 0 0 1
     ∷ row (HostRead 0x14 0x01) (word 0x1101) 0 0 0
@@ -96,11 +151,15 @@ selecting =
     -- the power bay's pack is pulled
     ∷ row (Removal 0) done 0 0 1
     ∷ row (HostRead 0x14 0x01) (word 0x2202) 0 0 0
-    -- 2 comes before 9, 3 before 4
+    -- the order: 2 before 9, 3 before 4, 6 before 7, 7 before 8
     ∷ row (Removal 2) (refused 2) 0 0 0
     ∷ row (Removal 0) (refused 9) 0 0 0
     ∷ row (BayWord 0 0x12 0) (refused 3) 0 0 0
     ∷ row (BayWord 0 0x14 1500) (refused 4) 0 0 0
+    ∷ row (HostWrite 0x14 0x01 0x21FF) (refused 6) 0 0 0
+    ∷ row (HostWrite 0x14 0x01 0x1F2F) (refused 7) 0 0 0
+    ∷ row (HostWrite 0x14 0x01 0xFF2F) (refused 8) 0 0 0
+    -- what always reads the same
     ∷ row (HostRead 0x14 0x03) (refused 3) 0 0 0
     ∷ row (HostRead 0x12 0x11) (word 0x0002) 0 0 0
     ∷ row (HostRead 0x14 0x04) (word 0x0113) 0 0 0

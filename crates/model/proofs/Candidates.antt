@@ -14,7 +14,7 @@ use Rattle.model.specs.Settling.{keptPower, unpowered, firstOf, takesOve
 use Rattle.model.specs.Promises.{SupplyKept}
 use Rattle.model.proofs.Bools.{choose}
 use Rattle.model.proofs.Bays.{below-four, empty-at, number-small}
-use Rattle.model.proofs.Along.{along}
+use Rattle.model.proofs.Induction.{along}
 
 -- the nibble n is 0 exactly when no bay is a candidate
 abbrev Tells : List Bay → ℕ → Type 0
