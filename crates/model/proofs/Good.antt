@@ -18,11 +18,13 @@ use Rattle.model.specs.Events.{Kind, stateWord, presetsWord, insertion, 
 use Rattle.model.specs.Bays.{emptyBay, bayAt, bayNamed, candidate, presentAfter, okAfter, lowAfter, readingAfter, bayAfter, okWritten, allOkWritten, baysAfter}
 use Rattle.model.specs.SelectorRules.{acArrives, written, smbAfter, powerAfter, dropsCharge, chargeAfter, nextAfter}
 use Rattle.model.specs.ChargerRules.{ageAfter}
-use Rattle.model.specs.Machines.{powerOn, act}
+use Rattle.model.specs.Machines.{programSetup, powerOn, act}
 use Rattle.model.specs.Settling.{keptSmb, keptPower, unpowered, firstOf, takesOver, settledPower, settledSmb, settle}
-use Rattle.model.specs.Refusals.{supports, oneBay, goodSetup, strayNibble, overAge, wasRead, strayBay, strayBays, badMachine, unsupportedBay, formed, stateFormed, badNibble, wrongPresence}
+use Rattle.model.specs.Refusals.{supports, oneBay, goodLimit, goodSetup, strayNibble, overAge, wasRead, strayBay, strayBays, badMachine, unsupportedBay, formed, stateFormed, badNibble, wrongPresence}
+use Rattle.model.specs.Numbers.{done, refused}
+use Rattle.model.specs.Step.{Told, powerOnSpec}
 use Rattle.model.specs.Runs.{run}
-use Rattle.model.specs.Promises.{AlwaysGood}
+use Rattle.model.specs.Promises.{PowerOnIsGood, AlwaysGood}
 use Rattle.model.proofs.Bools.{choose, and-l, and-r, or-l, or-r, or-then, and-then}
 use Rattle.model.proofs.Passes.{Passes}
 use Rattle.model.proofs.Induction.{along}
@@ -235,6 +237,15 @@ good-power-on s g =
       four = refl;
       bays = λ b l. rw (empty-at s b l);
     }
+
+pub power-on-is-good : PowerOnIsGood
+unfolding powerOnSpec goodSetup goodLimit
+power-on-is-good s = go (goodSetup s) refl
+  where
+    go : (t : Bool) → goodSetup s ≡ t →
+        badMachine (cond {A = Told} t (record { answer = done; machine = powerOn s }) (record { answer = refused 1; machine = powerOn programSetup }) .machine) ≡ false
+    go true q = accepted _ (good-power-on s q)
+    go false q = accepted _ (good-power-on programSetup refl)
 
 pub always-good : AlwaysGood
 always-good s g es = accepted _ (along (λ m h. Good m) (λ m e h p v. good-step m e p v) s (good-power-on s g) es)

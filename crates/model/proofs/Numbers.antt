@@ -8,8 +8,9 @@ use Rattle.model.specs.declared.Refusal.the-variants.{BadSetup, Unsuppor
 use Rattle.model.specs.declared.Answer.{Answer}
 use Rattle.model.specs.declared.Answer.the-variants.{Done, Word, Refused}
 use Rattle.model.specs.Numbers.{numberOf, Said, done, word, refused, said}
+use Rattle.model.specs.Step.{told}
 use Rattle.model.specs.Events.{Kind, kindNumber, currentWord, voltageWord, alarmWord, modeWord, stateWord, presetsWord, specRead, statusRead, stateRead, presetsRead, infoRead, insertion, removal, signal, terminal, acEvent, tick, noSuchWord}
-use Rattle.model.specs.Promises.{RefusalsApart, AnswersApart, KindsApart}
+use Rattle.model.specs.Promises.{RefusalsApart, AnswersApart, StepsApart, KindsApart}
 
 -- what has an inverse keeps different things apart
 apart : {A B : Type 0} (f : A → B) (g : B → A) → ((x : A) → g (f x) ≡ x) → (x y : A) → f x ≡ f y → x ≡ y
@@ -76,6 +77,10 @@ answer-back (Refused r) = ap Refused (refusal-back r)
 
 pub answers-apart : AnswersApart
 answers-apart = apart said answerOf answer-back
+
+pub steps-apart : StepsApart
+unfolding told
+steps-apart r q p = λ i. record { answer = answers-apart (r .answer) (q .answer) (ap (λ t. t .answer) p) i; machine = p i .machine }
 
 -- kinds of event, the first at 1
 

@@ -13,7 +13,7 @@ use Rattle.model.specs.SelectorRules.{acAfter, acGoes, dropsCharge, char
 use Rattle.model.specs.ChargerRules.{fresh, requestAfter, ageAfter, markAfter, rewritesBoth, holdAfter, inhibitAfter}
 use Rattle.model.specs.Machines.{powerOn, act}
 use Rattle.model.specs.Settling.{settle}
-use Rattle.model.specs.Facts.{Past, latest, since, some, ticks, acPresent, disconnects, connected, uninhibited, swapsAt, freshStart, sinceFresh, asked, ticksSince, held}
+use Rattle.model.specs.Facts.{Past, latest, since, some, ticks, acPresent, disconnects, connected, uninhibited, freshStart, sinceFresh, asked, ticksSince, held}
 use Rattle.model.proofs.Cell.{Cell, cell-step, cell-zero}
 use Rattle.model.proofs.Hold.{marked, marked-step, held-step}
 use Rattle.model.proofs.Bays.{BaysAgree, bays-step, present-at, bays-power-on}
@@ -78,7 +78,7 @@ module _ (s : Setup) (m : Machine) (e : Event) (h : Past) (a : Agrees s m h) whe
   charge-step = simp (a .charge-is, present-at (m .bays) (connected h) h (a .bays-are))
 
   fresh-is : fresh m e ≡ freshStart e h
-  unfolding fresh acGoes freshStart swapsAt
+  unfolding fresh acGoes freshStart
   fresh-is = simp (charge-step, a .charge-is, a .ac-is)
 
   cell : (k : Kind) (r : Request) → Cell (r .word) (r .age) (asked k h) (ticksSince k h) →

@@ -1,5 +1,5 @@
 -- Every promise of `specs/Promises.antt`, proved: a line each, with the file that has the argument.
-use Rattle.model.specs.Promises.{OutputIsTold, ExactlyEight, CutToTheLimits, CountedFrom, RunsOut, RefusalChangesNothing, AlwaysGood, Never15, TicksAndAcHeard, RefusalsApart, AnswersApart, KindsApart, SupplyKept, TableHolds, TimersHold, WorkedRunsHold}
+use Rattle.model.specs.Promises.{OutputIsTold, ExactlyEight, CutToTheLimits, FactsCanHold, CountedFrom, RunsOut, RefusalChangesNothing, PowerOnIsGood, AlwaysGood, Never15, TicksAndAcHeard, RefusalsApart, AnswersApart, StepsApart, KindsApart, SupplyKept, TableHolds, TimersHold, WorkedRunsHold}
 use Rattle.model.proofs.Demand3
 use Rattle.model.proofs.Exactly
 use Rattle.model.proofs.Origin
@@ -19,6 +19,9 @@ exactly-eight = Exactly.exactly-eight
 pub cut-to-the-limits : CutToTheLimits
 cut-to-the-limits = Exactly.cut-to-the-limits
 
+pub facts-can-hold : FactsCanHold
+facts-can-hold = Exactly.facts-can-hold
+
 pub counted-from : CountedFrom
 counted-from = Origin.counted-from
 
@@ -27,6 +30,9 @@ runs-out = Exactly.runs-out
 
 pub refusal-changes-nothing : RefusalChangesNothing
 refusal-changes-nothing = Passes.refusal-changes-nothing
+
+pub power-on-is-good : PowerOnIsGood
+power-on-is-good = Good.power-on-is-good
 
 pub always-good : AlwaysGood
 always-good = Good.always-good
@@ -42,6 +48,9 @@ refusals-apart = Numbers.refusals-apart
 
 pub answers-apart : AnswersApart
 answers-apart = Numbers.answers-apart
+
+pub steps-apart : StepsApart
+steps-apart = Numbers.steps-apart
 
 pub kinds-apart : KindsApart
 kinds-apart = Numbers.kinds-apart

@@ -27,7 +27,7 @@ bayNamed bays n = if named n then bayAt bays (bayNumber n) else emptyBay
 unfoldable pub candidate : Bay → Bool
 candidate bay = bay .present && bay .ok && not (bay .low)
 
--- the bay at which an event happens, after it
+-- The bay at which an event happens, after it. A pack that is put in starts OK, not low and unread.
 
 unfoldable pub presentAfter : Event → Bay → Bool
 presentAfter e bay =

@@ -7,8 +7,8 @@ use Rattle.model.specs.declared.Charger.{Charger}
 use Rattle.model.specs.declared.Machine.{Machine}
 use Rattle.model.specs.declared.Event.{Event}
 use Rattle.model.specs.If.{if_then_else_}
-use Rattle.model.specs.Words.{bit, names}
-use Rattle.model.specs.Events.{Kind, currentWord, voltageWord, alarmWord, modeWord, tick, is, swaps, resets, zeroes, alarms, wordOf, bayOf}
+use Rattle.model.specs.Words.{bit}
+use Rattle.model.specs.Events.{Kind, currentWord, voltageWord, alarmWord, modeWord, tick, is, swapsAt, resets, zeroes, alarms, wordOf}
 use Rattle.model.specs.SelectorRules.{acGoes, chargeAfter}
 
 -- fresh start: POR_RESET; AC goes from present to absent; the CHARGE nibble changes value; a pack is put in or pulled at the CHARGE bay
@@ -17,9 +17,9 @@ fresh m e =
     resets e
     || acGoes m e
     || not (eqb (chargeAfter m e) (m .selector .charge))
-    || swaps e && names (m .selector .charge) (bayOf e)
+    || swapsAt (m .selector .charge) e
 
--- A request, by the kind k of the words that set it. `f`: the event is a fresh start, which clears request, age and mark.
+-- A request, by the kind k of the words that set it. `start`: the event is a fresh start, which clears request, age and mark.
 
 -- a tick adds 1 to each age below 175
 abbrev pub older : ℕ → ℕ
@@ -27,8 +27,8 @@ older age = if ltb age 175 then age + 1 else age
 
 -- a word sets its request, bit 3 of ChargerMode zeroes both; a request whose age is 175 after a tick becomes 0
 unfoldable pub requestAfter : Bool → Kind → Event → Request → ℕ
-requestAfter f k e r =
-    if f then 0
+requestAfter start k e r =
+    if start then 0
     else if zeroes e then 0
     else if is k e then wordOf e
     else if is tick e && eqb (older (r .age)) 175 then 0
@@ -36,22 +36,22 @@ requestAfter f k e r =
 
 -- a word makes the age of its request 0
 unfoldable pub ageAfter : Bool → Kind → Event → Request → ℕ
-ageAfter f k e r =
-    if f then 0
+ageAfter start k e r =
+    if start then 0
     else if is k e then 0
     else if is tick e then older (r .age)
     else r .age
 
 -- an alarm clears both rewrite marks; each word, zeros too, sets its own
 unfoldable pub markAfter : Bool → Kind → Event → Request → Bool
-markAfter f k e r =
-    if f then false
+markAfter start k e r =
+    if start then false
     else if alarms e then false
     else if is k e then true
     else r .mark
 
 abbrev pub cellAfter : Bool → Kind → Event → Request → Request
-cellAfter f k e r = record { word = requestAfter f k e r; age = ageAfter f k e r; mark = markAfter f k e r }
+cellAfter start k e r = record { word = requestAfter start k e r; age = ageAfter start k e r; mark = markAfter start k e r }
 
 -- a current or voltage word that leaves both rewrite marks set
 unfoldable pub rewritesBoth : Charger → Event → Bool
@@ -62,8 +62,8 @@ rewritesBoth c e =
 
 -- an alarm puts on the alarm hold; an AlarmWarning with none of the bits lifts it, and so does a word that leaves both marks set
 unfoldable pub holdAfter : Bool → Charger → Event → Bool
-holdAfter f c e =
-    if f then false
+holdAfter start c e =
+    if start then false
     else if alarms e then true
     else if is alarmWord e then false
     else if rewritesBoth c e then false
@@ -77,10 +77,10 @@ inhibitAfter c e =
     else c .inhibit
 
 abbrev pub chargerAfter : Bool → Charger → Event → Charger
-chargerAfter f c e =
+chargerAfter start c e =
     record {
-      current = cellAfter f currentWord e (c .current);
-      voltage = cellAfter f voltageWord e (c .voltage);
-      hold = holdAfter f c e;
+      current = cellAfter start currentWord e (c .current);
+      voltage = cellAfter start voltageWord e (c .voltage);
+      hold = holdAfter start c e;
       inhibit = inhibitAfter c e;
     }

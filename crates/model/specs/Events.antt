@@ -5,10 +5,10 @@ use lib.Dec.{eqb}
 use Rattle.model.specs.declared.Event.{Event}
 use Rattle.model.specs.declared.Event.the-variants.{HostWrite, HostRead, BayWord, Insertion, Removal, Signal, Terminal, Ac, Tick}
 use Rattle.model.specs.If.{if_then_else_}
-use Rattle.model.specs.Words.{bit, chargeIn, alarming}
+use Rattle.model.specs.Words.{bit, names, alarming, chargeIn}
 
--- the words of the charger and the selector, the reads, the events at a bay, AC, a tick; `noSuchWord` where address and
--- code don't exist for that sender and direction
+-- words written to the charger, to the selector; reads; events at a bay; AC and a tick; where address and code don't exist
+-- for that sender and direction, no such word
 pub data Kind : Type 0 where
   currentWord voltageWord alarmWord modeWord : Kind
   stateWord presetsWord : Kind
@@ -17,32 +17,49 @@ pub data Kind : Type 0 where
   acEvent tick : Kind
   noSuchWord : Kind
 
--- host and bay both write 0x14, 0x15, 0x16 to the charger
-unfoldable pub chargerWord : ℕ → Kind
-chargerWord code =
+-- a bay writes 0x14, 0x15, 0x16 to the charger only
+unfoldable pub bayWrites : ℕ → Kind
+bayWrites code =
     if eqb code 0x14 then currentWord
     else if eqb code 0x15 then voltageWord
     else if eqb code 0x16 then alarmWord
     else noSuchWord
 
--- the host also writes 0x12 to the charger, and 0x01 and 0x02 to the selector
-unfoldable pub hostWrites : ℕ → ℕ → Kind
-hostWrites address code =
-    if eqb address 0x12 then (if eqb code 0x12 then modeWord else chargerWord code)
-    else if eqb address 0x14 then (if eqb code 0x01 then stateWord else if eqb code 0x02 then presetsWord else noSuchWord)
+-- the host writes 0x12, 0x14, 0x15, 0x16 to the charger
+unfoldable pub hostWritesCharger : ℕ → Kind
+hostWritesCharger code = if eqb code 0x12 then modeWord else bayWrites code
+
+unfoldable pub hostWritesSelector : ℕ → Kind
+hostWritesSelector code =
+    if eqb code 0x01 then stateWord
+    else if eqb code 0x02 then presetsWord
     else noSuchWord
 
--- it reads 0x11 and 0x13 of the charger, and 0x01, 0x02 and 0x04 of the selector
-unfoldable pub hostReads : ℕ → ℕ → Kind
-hostReads address code =
-    if eqb address 0x12 then (if eqb code 0x11 then specRead else if eqb code 0x13 then statusRead else noSuchWord)
-    else if eqb address 0x14 then (if eqb code 0x01 then stateRead else if eqb code 0x02 then presetsRead else if eqb code 0x04 then infoRead else noSuchWord)
+-- the host reads 0x11 and 0x13 of the charger
+unfoldable pub hostReadsCharger : ℕ → Kind
+hostReadsCharger code =
+    if eqb code 0x11 then specRead
+    else if eqb code 0x13 then statusRead
+    else noSuchWord
+
+unfoldable pub hostReadsSelector : ℕ → Kind
+hostReadsSelector code =
+    if eqb code 0x01 then stateRead
+    else if eqb code 0x02 then presetsRead
+    else if eqb code 0x04 then infoRead
+    else noSuchWord
+
+-- addresses: charger 0x12, selector 0x14
+unfoldable pub byAddress : ℕ → Kind → Kind → Kind
+byAddress address charger selector =
+    if eqb address 0x12 then charger
+    else if eqb address 0x14 then selector
     else noSuchWord
 
 unfoldable pub kindOf : Event → Kind
-kindOf (HostWrite address code w) = hostWrites address code
-kindOf (HostRead address code) = hostReads address code
-kindOf (BayWord b code w) = chargerWord code
+kindOf (HostWrite address code w) = byAddress address (hostWritesCharger code) (hostWritesSelector code)
+kindOf (HostRead address code) = byAddress address (hostReadsCharger code) (hostReadsSelector code)
+kindOf (BayWord b code w) = bayWrites code
 kindOf (Insertion b) = insertion
 kindOf (Removal b) = removal
 kindOf (Signal b ohms) = signal
@@ -122,6 +139,10 @@ atBay e = is insertion e || is removal e || is signal e || is terminal e
 -- a pack is put in or pulled
 unfoldable pub swaps : Event → Bool
 swaps e = is insertion e || is removal e
+
+-- it is put in or pulled at the bay that the nibble n names
+unfoldable pub swapsAt : ℕ → Event → Bool
+swapsAt n e = swaps e && names n (bayOf e)
 
 -- AC is said to be present
 unfoldable pub saysPresent : Event → Bool

@@ -11,9 +11,9 @@ use Rattle.model.specs.declared.Reading.the-variants.{Unread, Ohms}
 use Rattle.model.specs.declared.Output.{Output}
 use Rattle.model.specs.If.{if_then_else_}
 use Rattle.model.specs.Numbers.{Said, done, word, refused}
-use Rattle.model.specs.Words.{bit, named, bayNumber, names, alarming, chargeIn, okIn}
+use Rattle.model.specs.Words.{bit, named, bayNumber, alarming, chargeIn, okIn}
 use Rattle.model.specs.Board.{limited, noOutput, allows}
-use Rattle.model.specs.Events.{Kind, currentWord, voltageWord, alarmWord, modeWord, presetsWord, insertion, removal, signal, acEvent, tick, is, isAt, wordOf, bayOf, swaps, saysPresent, connects, resets, zeroes}
+use Rattle.model.specs.Events.{Kind, currentWord, voltageWord, alarmWord, modeWord, presetsWord, insertion, removal, signal, acEvent, tick, is, isAt, wordOf, swapsAt, saysPresent, connects, resets, zeroes}
 
 -- an event and its answer
 pub record Entry : Type 0 where
@@ -95,10 +95,6 @@ reading b (e ∷ h) =
 unfoldable pub uninhibited : Past → Bool
 uninhibited h = not (bit 0 (latest (is modeWord) h)) || bit 2 (latest (is modeWord) h)
 
--- a pack is put in or pulled at the bay that the nibble names
-unfoldable pub swapsAt : ℕ → Event → Bool
-swapsAt n e = swaps e && names n (bayOf e)
-
 -- e, after the past h, is a fresh start: POR_RESET, AC from present to absent, another connection, a pack put in or pulled at the connected bay
 unfoldable pub freshStart : Event → Past → Bool
 freshStart e h =
@@ -126,7 +122,7 @@ held h =
     alarming (latest (is alarmWord) h)
     && not (some (is currentWord) (since (is alarmWord) h) && some (is voltageWord) (since (is alarmWord) h))
 
--- the eight facts of a past
+-- the eight facts, of a setup and a past
 pub record Eight (s : Setup) (h : Past) : Type 0 where
   -- (a) the latest AC event says present
   pub ac : acPresent h ≡ true

@@ -6,8 +6,8 @@ use mathlib.Core.List.{[], _∷_, _++_}
 use Prim.Native.Nat.{ℕ}
 use Rattle.model.specs.declared.Event.{Event}
 use Rattle.model.specs.Words.{names}
-use Rattle.model.specs.Events.{Kind, is, wordOf, bayOf, fromBay}
-use Rattle.model.specs.Facts.{Past, some, packAt, connected, swapsAt, asked}
+use Rattle.model.specs.Events.{Kind, is, wordOf, bayOf, fromBay, swapsAt}
+use Rattle.model.specs.Facts.{Past, some, packAt, connected, asked}
 
 -- each of the events `later`, which came after `h`, left n connected, and none put in or pulled a pack at that bay
 abbrev pub Undisturbed : ℕ → Past → Past → Type 0

@@ -9,6 +9,7 @@ use Rattle.model.specs.declared.Event.{Event}
 use Rattle.model.specs.declared.Event.the-variants.{Ac, Tick}
 use Rattle.model.specs.declared.Machine.{Machine}
 use Rattle.model.specs.declared.Answer.{Answer}
+use Rattle.model.specs.declared.Stepped.{Stepped}
 use Rattle.model.specs.declared.Refusal.{Refusal}
 use Rattle.model.specs.Numbers.{numberOf, done, refused, said}
 use Rattle.model.specs.Board.{noOutput}
@@ -17,11 +18,11 @@ use Rattle.model.specs.Bays.{bayAt, candidate}
 use Rattle.model.specs.Machines.{programSetup, powerOn}
 use Rattle.model.specs.Reads.{output}
 use Rattle.model.specs.Refusals.{goodSetup, badMachine}
-use Rattle.model.specs.Step.{stepSpec}
+use Rattle.model.specs.Step.{told, stepSpec, powerOnSpec}
 use Rattle.model.specs.Facts.{ticksSince, Eight, requested, outputTold}
 use Rattle.model.specs.Runs.{run, past}
 use Rattle.model.specs.Origin.{Counted}
-use Rattle.model.specs.Table.{table, timers, allSeen, allValues}
+use Rattle.model.specs.Table.{charge, table, timers, allSeen, allValues}
 use Rattle.model.specs.Worked.{Row, rerun, listing, statusRead, chargerAtWork, selectorAtWork}
 
 -- DEMAND 3, for every setup and every list of events from power-on, refused ones included
@@ -37,6 +38,10 @@ ExactlyEight = (s : Setup) (es : List Event) → (output (run s es) ≡ noOutput
 -- and then equals the two requests cut to the limits
 abbrev pub CutToTheLimits : Type 0
 CutToTheLimits = (s : Setup) (es : List Event) → Eight s (past s es) → output (run s es) ≡ requested s (past s es)
+
+-- they can hold: of the run of the table's first rows
+abbrev pub FactsCanHold : Type 0
+FactsCanHold = Eight programSetup (past programSetup (charge 10000 1500))
 
 -- every counted request came from the host, or from the pack now in the charging bay, after it was put in and connected
 abbrev pub CountedFrom : Type 0
@@ -55,6 +60,10 @@ RunsOut =
 abbrev pub RefusalChangesNothing : Type 0
 RefusalChangesNothing = (m : Machine) (e : Event) (n : ℕ) → stepSpec m e .answer ≡ refused n → stepSpec m e .machine ≡ m
 
+-- what power-on hands back is a machine that 15 accepts, also where the setup is refused
+abbrev pub PowerOnIsGood : Type 0
+PowerOnIsGood = (s : Setup) → badMachine (powerOnSpec s .machine) ≡ false
+
 -- from power-on of a good setup every machine is one that 15 accepts, and 15 is never given
 abbrev pub AlwaysGood : Type 0
 AlwaysGood = (s : Setup) → goodSetup s ≡ true → (es : List Event) → badMachine (run s es) ≡ false
@@ -68,13 +77,16 @@ TicksAndAcHeard =
     (s : Setup) → goodSetup s ≡ true → (es : List Event) →
     (stepSpec (run s es) Tick .answer ≡ done) × ((p : Bool) → stepSpec (run s es) (Ac p) .answer ≡ done)
 
--- no two refusals have one number, no two answers one value, no two kinds of event one number
+-- no two refusals have one number, no two answers one value, no two steps are told alike, no two kinds of event have one number
 
 abbrev pub RefusalsApart : Type 0
 RefusalsApart = (r q : Refusal) → numberOf r ≡ numberOf q → r ≡ q
 
 abbrev pub AnswersApart : Type 0
 AnswersApart = (x y : Answer) → said x ≡ said y → x ≡ y
+
+abbrev pub StepsApart : Type 0
+StepsApart = (r q : Stepped) → told r ≡ told q → r ≡ q
 
 abbrev pub KindsApart : Type 0
 KindsApart = (k j : Kind) → kindNumber k ≡ kindNumber j → k ≡ j

@@ -9,7 +9,7 @@ use Rattle.model.specs.Numbers.{Said, done, word, refused, said}
 use Rattle.model.specs.Machines.{programSetup, powerOn, act}
 use Rattle.model.specs.Settling.{settle}
 use Rattle.model.specs.Reads.{isRead, wordShown}
-use Rattle.model.specs.Refusals.{goodSetup, fault, refusal}
+use Rattle.model.specs.Refusals.{goodSetup, refusal}
 
 -- an answer in the paper's value, beside the machine after it
 pub record Told : Type 0 where
@@ -28,11 +28,6 @@ unfoldable pub outcome : ℕ → Machine → Event → Told
 outcome zero m e = record { answer = reply m e; machine = settle (act m e) }
 outcome (suc n) m e = record { answer = refused (suc n); machine = m }
 
--- the step of a machine that 15 accepts
-unfoldable pub soundStep : Machine → Event → Told
-soundStep m e = outcome (fault m e) m e
-
--- the step of any machine
 unfoldable pub stepSpec : Machine → Event → Told
 stepSpec m e = outcome (refusal m e) m e
 
