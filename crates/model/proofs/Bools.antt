@@ -1,6 +1,6 @@
 -- Tests: what a conjunction, a disjunction and a choice tell.
 use mathlib.Core.Path.{_≡_, refl}
-use mathlib.Core.Bool.{Bool, true, false, not, cond, _&&_, _||_, true≢false, false≢true, and-false}
+use mathlib.Core.Bool.{Bool, true, false, cond, _&&_, _||_, true≢false, false≢true, and-false}
 
 pub cond-same : {A : Type 0} (b : Bool) (n : A) → cond b n n ≡ n
 cond-same true n = refl

@@ -1,5 +1,5 @@
 -- A machine that 15 accepts stays one, so from power-on of a good setup nothing is refused by 15.
-use Prim.Native.Nat.{ℕ, zero, suc, _≤_, _<_}
+use Prim.Native.Nat.{ℕ, _≤_, _<_}
 use mathlib.Core.Path.{_≡_, refl, sym, _∙_}
 use mathlib.Core.Bool.{Bool, true, false, not, cond, _&&_, _||_, true≢false, and-true, or-true}
 use mathlib.Core.List.{List}
@@ -14,7 +14,7 @@ use Rattle.model.specs.declared.Request.{Request}
 use Rattle.model.specs.declared.Event.{Event}
 use Rattle.model.specs.declared.Machine.{Machine}
 use Rattle.model.specs.Words.{bit, named, bayNumber, smbIn, powerIn, chargeIn, nextIn}
-use Rattle.model.specs.Events.{Kind, stateWord, presetsWord, insertion, removal, signal, terminal, tick, is, atBay, wordOf, bayOf, fromBay, connects}
+use Rattle.model.specs.Events.{Kind, stateWord, presetsWord, insertion, removal, tick, is, atBay, wordOf, bayOf, fromBay, connects}
 use Rattle.model.specs.Bays.{emptyBay, bayAt, bayNamed, candidate, presentAfter, okAfter, lowAfter, readingAfter, bayAfter, okWritten, allOkWritten, baysAfter}
 use Rattle.model.specs.SelectorRules.{acArrives, written, smbAfter, powerAfter, dropsCharge, chargeAfter, nextAfter}
 use Rattle.model.specs.ChargerRules.{ageAfter}
@@ -23,7 +23,6 @@ use Rattle.model.specs.Settling.{keptSmb, keptPower, unpowered, firstOf,
 use Rattle.model.specs.Refusals.{supports, oneBay, goodLimit, goodSetup, strayNibble, overAge, wasRead, strayBay, strayBays, badMachine, unsupportedBay, formed, stateFormed, badNibble, wrongPresence}
 use Rattle.model.specs.Numbers.{done, refused}
 use Rattle.model.specs.Step.{Told, powerOnSpec}
-use Rattle.model.specs.Runs.{run}
 use Rattle.model.specs.Promises.{PowerOnIsGood, AlwaysGood}
 use Rattle.model.proofs.Bools.{choose, and-l, and-r, or-l, or-r, or-then, and-then}
 use Rattle.model.proofs.Passes.{Passes}

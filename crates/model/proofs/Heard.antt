@@ -4,9 +4,8 @@ use mathlib.Core.Path.{_≡_}
 use mathlib.Core.Bool.{Bool, true, false, cond, _&&_}
 use native.Mathlib.Omega.{arith}
 use Rattle.model.specs.declared.Event.{Event}
-use Rattle.model.specs.declared.Event.the-variants.{Ac, Tick}
 use Rattle.model.specs.declared.Machine.{Machine}
-use Rattle.model.specs.Numbers.{done, refused}
+use Rattle.model.specs.Numbers.{refused}
 use Rattle.model.specs.Events.{stateWord, noSuchWord, kindNumber, kindOf, is, atBay, fromBay, wordOf}
 use Rattle.model.specs.Reads.{isRead}
 use Rattle.model.specs.Refusals.{badMachine, unsupportedBay, notChargingBay, badNibble, smbElsewhere, notUsable, sameBay, wrongPresence, fault, refusal}

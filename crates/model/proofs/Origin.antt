@@ -10,12 +10,12 @@ use Rattle.model.specs.declared.Setup.{Setup}
 use Rattle.model.specs.declared.Event.{Event}
 use Rattle.model.specs.declared.Machine.{Machine}
 use Rattle.model.specs.Words.{named, bayNumber, names}
-use Rattle.model.specs.Events.{Kind, currentWord, voltageWord, insertion, removal, is, isAt, swaps, swapsAt, wordOf, bayOf, fromBay, zeroes}
+use Rattle.model.specs.Events.{Kind, currentWord, voltageWord, insertion, removal, is, isAt, swaps, swapsAt, bayOf, fromBay, zeroes}
 use Rattle.model.specs.Bays.{bayAt}
 use Rattle.model.specs.Refusals.{notChargingBay}
 use Rattle.model.specs.Facts.{Past, latest, since, some, sinceFresh, holdsPack, packAt, connected, freshStart, asked}
 use Rattle.model.specs.Runs.{run, past}
-use Rattle.model.specs.Origin.{Undisturbed, Counted}
+use Rattle.model.specs.Origin.{Counted}
 use Rattle.model.specs.Promises.{CountedFrom}
 use Rattle.model.proofs.Bools.{or-l, or-r, and-then}
 use Rattle.model.proofs.Passes.{Passes}

@@ -1,10 +1,8 @@
 -- Whole machines: at power-on, after an accepted event, and with one part anew. No other file writes a machine or a setup out field by field.
 use mathlib.Core.Bool.{Bool, false}
-use mathlib.Core.List.{List, [], _∷_}
+use mathlib.Core.List.{[], _∷_}
 use Rattle.model.specs.declared.Setup.{Setup}
-use Rattle.model.specs.declared.Bay.{Bay}
 use Rattle.model.specs.declared.Request.{Request}
-use Rattle.model.specs.declared.Charger.{Charger}
 use Rattle.model.specs.declared.Selector.{Selector}
 use Rattle.model.specs.declared.Machine.{Machine}
 use Rattle.model.specs.declared.Event.{Event}
