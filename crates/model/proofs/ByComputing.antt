@@ -1,8 +1,11 @@
--- P1 to P12 and the worked runs, computed from power-on by the rules.
+-- P1 to P12, the worked runs and the facts of a run, computed from power-on by the rules.
 use mathlib.Core.Path.{refl}
+use native.Mathlib.Omega.{arith}
+use Rattle.model.specs.Facts.{hear, accepted, latest, since, some, ticks, acPresent, holdsPack, packAt, disconnects, connected, reading, uninhibited, freshStart, sinceFresh, asked, ticksSince, held}
+use Rattle.model.specs.Runs.{saidFrom, history}
 use Rattle.model.specs.Table.{seen, table, timers, allSeen, allValues}
 use Rattle.model.specs.Worked.{rowOf, rerun, listing, statusRead, chargerAtWork, selectorAtWork}
-use Rattle.model.specs.Promises.{TableHolds, TimersHold, Comes}
+use Rattle.model.specs.Promises.{FactsCanHold, TableHolds, TimersHold, Comes}
 use Rattle.model.proofs.Computes.{computes}
 
 pub table-holds : TableHolds
@@ -28,3 +31,17 @@ charger-comes = refl
 pub selector-comes : Comes selectorAtWork
 unfolding computes rowOf rerun selectorAtWork
 selector-comes = refl
+
+pub facts-can-hold : FactsCanHold
+unfolding computes history saidFrom hear accepted latest since some ticks acPresent holdsPack packAt disconnects connected reading uninhibited freshStart sinceFresh asked ticksSince held
+facts-can-hold =
+    record {
+      ac = refl;
+      pack = refl;
+      signal-allows = refl;
+      not-inhibited = refl;
+      current-asked = omega arith;
+      voltage-asked = omega arith;
+      in-time = (omega arith, omega arith);
+      not-held = refl;
+    }

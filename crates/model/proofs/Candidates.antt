@@ -54,5 +54,5 @@ settled m q =
     kept false c u = absurd (true≢false (rw q at u))
 
 pub supply-kept : SupplyKept
-unfolding settle act powerOn candidate
+unfolding settle powerOn candidate
 supply-kept s = along (λ m h. m .ac ≡ false → Tells (m .bays) (m .selector .power)) (λ m e h p a. settled (act m e)) s (λ _. (λ _ b l. rw (empty-at s b l), λ _. refl))

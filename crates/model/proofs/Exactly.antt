@@ -14,14 +14,12 @@ use Rattle.model.specs.declared.Limit.{Limit}
 use Rattle.model.specs.Board.{limited, noOutput}
 use Rattle.model.specs.Reads.{output}
 use Rattle.model.specs.Refusals.{goodLimit, goodSetup, badMachine}
-use Rattle.model.specs.Machines.{programSetup, act}
+use Rattle.model.specs.Machines.{act}
 use Rattle.model.specs.Settling.{settle}
 use Rattle.model.specs.Facts.{Past, acPresent, Eight, requested, eightHold, outputTold}
-use Rattle.model.specs.Promises.{ExactlyEight, CutToTheLimits, FactsCanHold, RunsOut}
+use Rattle.model.specs.Promises.{ExactlyEight, CutToTheLimits, RunsOut}
 use Rattle.model.specs.Runs.{run, past}
-use Rattle.model.specs.Table.{charge}
 use Rattle.model.proofs.Bools.{and-l, and-r, or-l}
-use Rattle.model.proofs.Computes.{computes}
 use Rattle.model.proofs.Passes.{Passes}
 use Rattle.model.proofs.Induction.{along}
 use Rattle.model.proofs.Demand3.{agrees, eight, eight⁻¹, output-is-told}
@@ -89,10 +87,6 @@ exactly-eight s es = (
   λ n. ⊎-elim (λ x. x) (λ y. absurd (n (output-is-told s es ∙ y .1))) (decide s (past s es)),
   λ x z. positive s (past s es) (good-setup s es x) x (sym (cut-to-the-limits s es x) ∙ z),
 )
-
-pub facts-can-hold : FactsCanHold
-unfolding computes
-facts-can-hold = exactly-eight programSetup (charge 10000 1500) .0 (λ z. let n : _≡_ {A = ℕ} 1500 0 = ap (λ o. o .milliamps) z in omega arith)
 
 zero-unless : (s : Setup) (es : List Event) → (Eight s (past s es) → ⊥) → output (run s es) ≡ noOutput
 zero-unless s es n = ⊎-elim (λ x. absurd (n x)) (λ y. output-is-told s es ∙ y .1) (decide s (past s es))

@@ -141,7 +141,7 @@ module _ (s : Setup) (bays : List Bay) (g : Bayed s bays) where
       not-false _ (or-l _ _ (rw q at (g (bayNumber n) (number-small n))))
 
   first-one : One s (firstOf bays)
-  unfolding One firstOf oneBay named bayNumber
+  unfolding One firstOf oneBay named
   first-one =
       choose (One s) _ 1 _ (fits 1 refl)
       (λ _. choose (One s) _ 2 _ (fits 2 refl)

@@ -85,7 +85,7 @@ pub held-step : (e : Event) (h : Past) →
     (cond (is alarmWord e) false
     (cond ((is currentWord e || is voltageWord e) && (is currentWord e || marked currentWord (sinceFresh h)) && (is voltageWord e || marked voltageWord (sinceFresh h))) false
     (held (sinceFresh h)))))
-unfolding sinceFresh held latest since some alarming nibble
+unfolding sinceFresh held latest alarming nibble
 held-step e h = go (freshStart e h)
   where
     t : Past

@@ -20,7 +20,7 @@ pub cut-to-the-limits : CutToTheLimits
 cut-to-the-limits = Exactly.cut-to-the-limits
 
 pub facts-can-hold : FactsCanHold
-facts-can-hold = Exactly.facts-can-hold
+facts-can-hold = ByComputing.facts-can-hold
 
 pub counted-from : CountedFrom
 counted-from = Origin.counted-from
