@@ -4,7 +4,7 @@ use native.Mathlib.Omega.{arith}
 use Rattle.model.specs.Facts.{hear, accepted, latest, since, some, ticks, acPresent, holdsPack, packAt, disconnects, connected, reading, uninhibited, freshStart, sinceFresh, asked, ticksSince, held}
 use Rattle.model.specs.Runs.{saidFrom, history}
 use Rattle.model.specs.Table.{seen, table, timers, allSeen, allValues}
-use Rattle.model.specs.Worked.{rowOf, rerun, listing, statusRead, chargerAtWork, selectorAtWork}
+use Rattle.model.specs.Worked.{rowOf, rerun, listing, statusWords, chargerAtWork, selectorAtWork}
 use Rattle.model.specs.Promises.{FactsCanHold, TableHolds, TimersHold, Comes}
 use Rattle.model.proofs.Computes.{computes}
 
@@ -20,8 +20,8 @@ pub listing-comes : Comes listing
 unfolding computes rowOf rerun listing
 listing-comes = refl
 
-pub status-comes : Comes statusRead
-unfolding computes rowOf rerun statusRead
+pub status-comes : Comes statusWords
+unfolding computes rowOf rerun statusWords
 status-comes = refl
 
 pub charger-comes : Comes chargerAtWork

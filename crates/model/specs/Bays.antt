@@ -13,9 +13,11 @@ use Rattle.model.specs.If.{if_then_else_}
 use Rattle.model.specs.Words.{named, bayNumber, okIn}
 use Rattle.model.specs.Events.{presetsWord, insertion, removal, signal, terminal, is, atBay, wordOf, bayOf}
 
+-- an empty bay
 abbrev pub emptyBay : Bay
 emptyBay = record { present = false; ok = false; low = false; reading = Unread }
 
+-- bay number b
 unfoldable pub bayAt : List Bay → ℕ → Bay
 bayAt bays b = getD bays b emptyBay
 
@@ -29,6 +31,7 @@ candidate bay = bay .present && bay .ok && not (bay .low)
 
 -- The bay at which an event happens, after it. A pack that is put in starts OK, not low and unread.
 
+-- insertion brings a pack, removal takes it
 unfoldable pub presentAfter : Event → Bay → Bool
 presentAfter e bay =
     if is insertion e then true
@@ -59,14 +62,15 @@ readingAfter e bay =
     else if is signal e then Ohms (wordOf e)
     else bay .reading
 
+-- the four together
 unfoldable pub bayAfter : Setup → Event → Bay → Bay
 bayAfter s e bay = record { present = presentAfter e bay; ok = okAfter e bay; low = lowAfter s e bay; reading = readingAfter e bay }
 
--- SelectorPresets writes every bay's OK mark; OK bits of absent bays stay 0
-
+-- bay b after the Presets word w; OK bits of absent bays stay 0
 abbrev pub okWritten : ℕ → ℕ → Bay → Bay
 okWritten w b bay = record { present = bay .present; ok = bay .present && okIn b w; low = bay .low; reading = bay .reading }
 
+-- SelectorPresets writes the OK mark of every bay
 unfoldable pub allOkWritten : ℕ → List Bay → List Bay
 allOkWritten w bays =
     okWritten w 0 (bayAt bays 0)

@@ -14,10 +14,11 @@ use Rattle.model.specs.If.{if_then_else_}
 unfoldable pub limited : Limit → ℕ → ℕ
 limited l request = if eqb request 65535 then l .safe else min request (l .largest)
 
+-- 0 mA and 0 mV
 abbrev pub noOutput : Output
 noOutput = record { milliamps = 0; millivolts = 0 }
 
--- below 500; 500 to 2999; 3000 to 30000; 30001 to 100000; above 100000
+-- below 500 HOT and UR; 500 to 2999 HOT; 3000 to 30000 plain; 30001 to 100000 COLD; above 100000 OR and COLD
 unfoldable pub classOf : ℕ → Class
 classOf ohms =
     if ltb ohms 500 then Under
@@ -39,6 +40,7 @@ allowed Plain = true
 allowed Cold = true
 allowed Over = false
 
+-- a reading allows charging
 unfoldable pub allows : Reading → Bool
 allows r = allowed (classRead r)
 

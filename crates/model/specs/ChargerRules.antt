@@ -50,6 +50,7 @@ markAfter start k e r =
     else if is k e then true
     else r .mark
 
+-- the three together
 abbrev pub cellAfter : Bool → Kind → Event → Request → Request
 cellAfter start k e r = record { word = requestAfter start k e r; age = ageAfter start k e r; mark = markAfter start k e r }
 
@@ -76,6 +77,7 @@ inhibitAfter c e =
     else if is modeWord e then bit 0 (wordOf e)
     else c .inhibit
 
+-- all of the charger
 abbrev pub chargerAfter : Bool → Charger → Event → Charger
 chargerAfter start c e =
     record {

@@ -29,6 +29,7 @@ bayWrites code =
 unfoldable pub hostWritesCharger : ℕ → Kind
 hostWritesCharger code = if eqb code 0x12 then modeWord else bayWrites code
 
+-- the host writes 0x01 and 0x02 to the selector
 unfoldable pub hostWritesSelector : ℕ → Kind
 hostWritesSelector code =
     if eqb code 0x01 then stateWord
@@ -42,6 +43,7 @@ hostReadsCharger code =
     else if eqb code 0x13 then statusRead
     else noSuchWord
 
+-- the host reads 0x01, 0x02 and 0x04 of the selector
 unfoldable pub hostReadsSelector : ℕ → Kind
 hostReadsSelector code =
     if eqb code 0x01 then stateRead
@@ -56,6 +58,7 @@ byAddress address charger selector =
     else if eqb address 0x14 then selector
     else noSuchWord
 
+-- the kind of an event
 unfoldable pub kindOf : Event → Kind
 kindOf (HostWrite address code w) = byAddress address (hostWritesCharger code) (hostWritesSelector code)
 kindOf (HostRead address code) = byAddress address (hostReadsCharger code) (hostReadsSelector code)
@@ -148,11 +151,11 @@ swapsAt n e = swaps e && names n (bayOf e)
 unfoldable pub saysPresent : Event → Bool
 saysPresent e = eqb (wordOf e) 1
 
--- ChargerMode: with bit 2, POR_RESET, the rest of the word is ignored; otherwise bit 3 zeroes both requests
-
+-- ChargerMode with bit 2, POR_RESET: the rest of the word is ignored
 unfoldable pub resets : Event → Bool
 resets e = is modeWord e && bit 2 (wordOf e)
 
+-- ChargerMode without it: bit 3 sets both requests to 0
 unfoldable pub zeroes : Event → Bool
 zeroes e = is modeWord e && not (bit 2 (wordOf e)) && bit 3 (wordOf e)
 

@@ -30,6 +30,7 @@ hear e done h = e ∷ h
 hear e (word w) h = e ∷ h
 hear e (refused n) h = h
 
+-- the accepted ones of a list of entries
 unfoldable pub accepted : List Entry → Past
 accepted [] = []
 accepted (x ∷ xs) = hear (x .event) (x .answer) (accepted xs)
@@ -49,6 +50,7 @@ unfoldable pub some : (Event → Bool) → Past → Bool
 some p [] = false
 some p (e ∷ h) = p e || some p h
 
+-- how many ticks there are
 unfoldable pub ticks : Past → ℕ
 ticks [] = 0
 ticks (e ∷ h) = if is tick e then suc (ticks h) else ticks h

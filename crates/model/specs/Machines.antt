@@ -21,6 +21,7 @@ programSetup =
       restart = 10500;
     }
 
+-- a request that was not made
 abbrev pub noRequest : Request
 noRequest = record { word = 0; age = 0; mark = false }
 
@@ -48,8 +49,10 @@ act m e =
       notice = noticeAfter m e;
     }
 
+-- the machine with its selector anew
 abbrev pub withSelector : Machine → Selector → Machine
 withSelector m x = record { setup = m .setup; bays = m .bays; charger = m .charger; selector = x; ac = m .ac; notice = m .notice }
 
+-- the machine with its notice anew
 abbrev pub withNotice : Machine → Bool → Machine
 withNotice m x = record { setup = m .setup; bays = m .bays; charger = m .charger; selector = m .selector; ac = m .ac; notice = x }

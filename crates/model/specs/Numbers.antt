@@ -5,6 +5,7 @@ use Rattle.model.specs.declared.Refusal.the-variants.{BadSetup, Unsuppor
 use Rattle.model.specs.declared.Answer.{Answer}
 use Rattle.model.specs.declared.Answer.the-variants.{Done, Word, Refused}
 
+-- the number of a refusal
 abbrev pub numberOf : Refusal → ℕ
 numberOf BadSetup = 1
 numberOf UnsupportedBay = 2

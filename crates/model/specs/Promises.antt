@@ -23,7 +23,7 @@ use Rattle.model.specs.Facts.{ticksSince, Eight, requested, outputTold}
 use Rattle.model.specs.Runs.{run, past}
 use Rattle.model.specs.Origin.{Counted}
 use Rattle.model.specs.Table.{charge, table, timers, allSeen, allValues}
-use Rattle.model.specs.Worked.{Row, rerun, listing, statusRead, chargerAtWork, selectorAtWork}
+use Rattle.model.specs.Worked.{Row, rerun, listing, statusWords, chargerAtWork, selectorAtWork}
 
 -- DEMAND 3, for every setup and every list of events from power-on, refused ones included
 
@@ -39,7 +39,7 @@ ExactlyEight = (s : Setup) (es : List Event) → (output (run s es) ≡ noOutput
 abbrev pub CutToTheLimits : Type 0
 CutToTheLimits = (s : Setup) (es : List Event) → Eight s (past s es) → output (run s es) ≡ requested s (past s es)
 
--- they can hold: of the run of the table's first rows
+-- the eight can hold: they do of a run that charges 1500 mA
 abbrev pub FactsCanHold : Type 0
 FactsCanHold = Eight programSetup (past programSetup (charge 10000 1500))
 
@@ -64,10 +64,11 @@ RefusalChangesNothing = (m : Machine) (e : Event) (n : ℕ) → stepSpec m e .an
 abbrev pub PowerOnIsGood : Type 0
 PowerOnIsGood = (s : Setup) → badMachine (powerOnSpec s .machine) ≡ false
 
--- from power-on of a good setup every machine is one that 15 accepts, and 15 is never given
+-- from power-on of a good setup every machine is one that 15 accepts
 abbrev pub AlwaysGood : Type 0
 AlwaysGood = (s : Setup) → goodSetup s ≡ true → (es : List Event) → badMachine (run s es) ≡ false
 
+-- so 15 is never given
 abbrev pub Never15 : Type 0
 Never15 = (s : Setup) → goodSetup s ≡ true → (es : List Event) (e : Event) → stepSpec (run s es) e .answer ≡ refused 15 → ⊥
 
@@ -77,17 +78,19 @@ TicksAndAcHeard =
     (s : Setup) → goodSetup s ≡ true → (es : List Event) →
     (stepSpec (run s es) Tick .answer ≡ done) × ((p : Bool) → stepSpec (run s es) (Ac p) .answer ≡ done)
 
--- no two refusals have one number, no two answers one value, no two steps are told alike, no two kinds of event have one number
-
+-- no two refusals have one number
 abbrev pub RefusalsApart : Type 0
 RefusalsApart = (r q : Refusal) → numberOf r ≡ numberOf q → r ≡ q
 
+-- no two answers have one value
 abbrev pub AnswersApart : Type 0
 AnswersApart = (x y : Answer) → said x ≡ said y → x ≡ y
 
+-- no two steps are told alike
 abbrev pub StepsApart : Type 0
 StepsApart = (r q : Stepped) → told r ≡ told q → r ≡ q
 
+-- no two kinds of event have one number
 abbrev pub KindsApart : Type 0
 KindsApart = (k j : Kind) → kindNumber k ≡ kindNumber j → k ≡ j
 
@@ -105,6 +108,7 @@ SupplyKept =
 abbrev pub TableHolds : Type 0
 TableHolds = allSeen table ≡ allValues table
 
+-- each request's own timer
 abbrev pub TimersHold : Type 0
 TimersHold = allSeen timers ≡ allValues timers
 
@@ -112,5 +116,6 @@ TimersHold = allSeen timers ≡ allValues timers
 abbrev pub Comes : List Row → Type 0
 Comes rows = rerun (powerOn programSetup) rows ≡ rows
 
+-- the paper's listing, its status words, and the charger and the selector at work
 abbrev pub WorkedRunsHold : Type 0
-WorkedRunsHold = Comes listing × Comes statusRead × Comes chargerAtWork × Comes selectorAtWork
+WorkedRunsHold = Comes listing × Comes statusWords × Comes chargerAtWork × Comes selectorAtWork

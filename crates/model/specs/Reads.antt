@@ -14,6 +14,7 @@ use Rattle.model.specs.Board.{limited, noOutput, classRead, allows, clas
 use Rattle.model.specs.Events.{specRead, statusRead, stateRead, presetsRead, infoRead, is}
 use Rattle.model.specs.Bays.{bayAt, bayNamed, candidate}
 
+-- the CHARGE bay; an empty one when it is none
 abbrev pub chargeBay : Machine → Bay
 chargeBay m = bayNamed (m .bays) (m .selector .charge)
 
@@ -62,6 +63,7 @@ statusWord m =
 
 -- 0x01 SelectorState
 
+-- the charge output is non-zero
 unfoldable pub flowing : Output → Bool
 flowing o = not (eqb (o .milliamps) 0) || not (eqb (o .millivolts) 0)
 
@@ -69,14 +71,17 @@ flowing o = not (eqb (o .milliamps) 0) || not (eqb (o .millivolts) 0)
 unfoldable pub shownPower : Machine → ℕ
 shownPower m = if flowing (output m) then inverted (m .selector .power) else m .selector .power
 
+-- PRESENT: a bit for each bay
 unfoldable pub presentNibble : List Bay → ℕ
 presentNibble bays = on 0 (bayAt bays 0 .present) + on 1 (bayAt bays 1 .present) + on 2 (bayAt bays 2 .present) + on 3 (bayAt bays 3 .present)
 
+-- SMB, POWER_BY, CHARGE, PRESENT
 unfoldable pub stateShown : Machine → ℕ
 stateShown m = nibbles (m .selector .smb) (shownPower m) (m .selector .charge) (presentNibble (m .bays))
 
 -- 0x02 SelectorPresets
 
+-- OK_TO_USE: a bit for each bay
 unfoldable pub okNibble : List Bay → ℕ
 okNibble bays = on 0 (bayAt bays 0 .ok) + on 1 (bayAt bays 1 .ok) + on 2 (bayAt bays 2 .ok) + on 3 (bayAt bays 3 .ok)
 
@@ -102,6 +107,7 @@ presetsShown m = nibbles 0 0 (shownNext m) (okNibble (m .bays))
 unfoldable pub infoShown : Machine → ℕ
 infoShown m = 0x0110 + nibble 0 (m .setup .supported)
 
+-- a read that exists
 unfoldable pub isRead : Event → Bool
 isRead e = is specRead e || is statusRead e || is stateRead e || is presetsRead e || is infoRead e
 

@@ -52,6 +52,7 @@ strayNibble m =
 unfoldable pub overAge : Machine → Bool
 overAge m = ltb 175 (m .charger .current .age) || ltb 175 (m .charger .voltage .age)
 
+-- there is a reading
 abbrev pub wasRead : Reading → Bool
 wasRead Unread = false
 wasRead (Ohms ohms) = true
@@ -62,9 +63,11 @@ strayBay s b bay =
     bay .present && not (supports s b)
     || not (bay .present) && (bay .ok || bay .low || wasRead (bay .reading))
 
+-- one of the four bays is such a bay
 unfoldable pub strayBays : Setup → List Bay → Bool
 strayBays s bays = strayBay s 0 (bayAt bays 0) || strayBay s 1 (bayAt bays 1) || strayBay s 2 (bayAt bays 2) || strayBay s 3 (bayAt bays 3)
 
+-- any of these, or a setup that 1 refuses
 unfoldable pub badMachine : Machine → Bool
 badMachine m = not (goodSetup (m .setup)) || strayNibble m || overAge m || strayBays (m .setup) (m .bays)
 
@@ -108,10 +111,11 @@ notUsable m w =
     || namesBay (chargeIn w) && not (bayNamed (m .bays) (chargeIn w) .present && bayNamed (m .bays) (chargeIn w) .ok)
     || eqb (powerIn w) 0 && not (m .ac)
 
--- POWER_BY and CHARGE as the word would leave them
+-- POWER_BY as the word would leave it
 abbrev pub powerWritten : Machine → ℕ → ℕ
 powerWritten m w = written (powerIn w) (m .selector .power)
 
+-- CHARGE as the word would leave it
 abbrev pub chargeWritten : Machine → ℕ → ℕ
 chargeWritten m w = written (chargeIn w) (m .selector .charge)
 

@@ -17,11 +17,11 @@ unfoldable pub saidFrom : Machine → List Entry → List Event → List Entry
 saidFrom m h [] = h
 saidFrom m h (e ∷ es) = saidFrom (stepSpec m e .machine) (record { event = e; answer = stepSpec m e .answer } ∷ h) es
 
--- from power-on
-
+-- the machine after a list of events from power-on
 unfoldable pub run : Setup → List Event → Machine
 run s es = runFrom (powerOn s) es
 
+-- what was said of them
 unfoldable pub history : Setup → List Event → List Entry
 history s es = saidFrom (powerOn s) [] es
 

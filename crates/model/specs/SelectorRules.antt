@@ -9,14 +9,15 @@ use Rattle.model.specs.Words.{bayNumber, smbIn, powerIn, chargeIn, nextI
 use Rattle.model.specs.Events.{stateWord, presetsWord, stateRead, acEvent, is, swaps, saysPresent, connects, wordOf}
 use Rattle.model.specs.Bays.{bayNamed}
 
+-- AC as the latest AC event says
 unfoldable pub acAfter : Machine → Event → Bool
 acAfter m e = if is acEvent e then saysPresent e else m .ac
 
--- AC goes from absent to present, from present to absent; an AC event that repeats the standing value does neither
-
+-- AC goes from absent to present
 unfoldable pub acArrives : Machine → Event → Bool
 acArrives m e = is acEvent e && not (m .ac) && saysPresent e
 
+-- AC goes from present to absent; an AC event that repeats the standing value does neither
 unfoldable pub acGoes : Machine → Event → Bool
 acGoes m e = is acEvent e && m .ac && not (saysPresent e)
 
@@ -24,6 +25,7 @@ acGoes m e = is acEvent e && m .ac && not (saysPresent e)
 unfoldable pub written : ℕ → ℕ → ℕ
 written n standing = if eqb n 15 then standing else n
 
+-- SMB as written
 unfoldable pub smbAfter : Machine → Event → ℕ
 smbAfter m e =
     if is stateWord e then written (smbIn (wordOf e)) (m .selector .smb)

@@ -34,6 +34,7 @@ firstOf bays =
 unfoldable pub takesOver : List Bay → ℕ → ℕ
 takesOver bays wanted = if candidate (bayNamed bays wanted) then wanted else firstOf bays
 
+-- if POWER_BY is 0 and AC is absent, it takes a bay
 unfoldable pub settledPower : Machine → ℕ
 settledPower m =
     if unpowered m then takesOver (m .bays) (m .selector .next)
@@ -49,6 +50,7 @@ settledSmb m =
 unfoldable pub powerChanged : Machine → Bool
 powerChanged m = not (eqb (settledPower m) (m .selector .power))
 
+-- after all three
 unfoldable pub settle : Machine → Machine
 settle m =
     withNotice

@@ -16,6 +16,7 @@ pub record Told : Type 0 where
   pub answer : Said
   pub machine : Machine
 
+-- a step in the paper's value
 unfoldable pub told : Stepped → Told
 told r = record { answer = said (r .answer); machine = r .machine }
 
@@ -28,6 +29,7 @@ unfoldable pub outcome : ℕ → Machine → Event → Told
 outcome zero m e = record { answer = reply m e; machine = settle (act m e) }
 outcome (suc n) m e = record { answer = refused (suc n); machine = m }
 
+-- the step of any machine at any event
 unfoldable pub stepSpec : Machine → Event → Told
 stepSpec m e = outcome (refusal m e) m e
 

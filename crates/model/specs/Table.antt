@@ -19,15 +19,18 @@ charge ohms milliamps =
 pub data Look : Type 0 where
   current info : Look
 
+-- what is seen
 unfoldable pub seen : Look → Machine → ℕ
 seen current m = output m .milliamps
 seen info m = wordShown m (HostRead 0x14 0x04)
 
+-- the events of a run, what is looked at, and what should be seen
 pub record Case : Type 0 where
   pub events : List Event
   pub look : Look
   pub value : ℕ
 
+-- P1 to P12
 unfoldable pub table : List Case
 table =
     -- P1 to P5: requests 2999, 3000, 3001, 65534, 65535 with 3000/2000
@@ -58,12 +61,12 @@ timers =
     ∷ record { events = charge 10000 1500 ++ replicate 180 Tick ++ BayWord 0 0x14 1400 ∷ BayWord 0 0x15 16800 ∷ []; look = current; value = 1400 }
     ∷ []
 
--- what is seen in each case, and what should be
-
+-- what is seen in each case
 unfoldable pub allSeen : List Case → List ℕ
 allSeen [] = []
 allSeen (c ∷ cs) = seen (c .look) (run programSetup (c .events)) ∷ allSeen cs
 
+-- what should be seen in each case
 unfoldable pub allValues : List Case → List ℕ
 allValues [] = []
 allValues (c ∷ cs) = c .value ∷ allValues cs

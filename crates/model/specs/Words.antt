@@ -40,21 +40,22 @@ names n b = named n && eqb b (bayNumber n)
 unfoldable pub alarming : ℕ → Bool
 alarming w = not (eqb (nibble 12 w) 0)
 
--- SelectorState: SMB bits 15-12, POWER_BY 11-8, CHARGE 7-4, PRESENT 3-0
-
+-- SelectorState: SMB bits 15-12
 abbrev pub smbIn : ℕ → ℕ
 smbIn w = nibble 12 w
 
+-- SelectorState: POWER_BY bits 11-8
 abbrev pub powerIn : ℕ → ℕ
 powerIn w = nibble 8 w
 
+-- SelectorState: CHARGE bits 7-4; PRESENT is bits 3-0
 abbrev pub chargeIn : ℕ → ℕ
 chargeIn w = nibble 4 w
 
--- SelectorPresets: USE_NEXT bits 7-4, OK_TO_USE 3-0; bay b's OK bit is bit b
-
+-- SelectorPresets: USE_NEXT bits 7-4
 abbrev pub nextIn : ℕ → ℕ
 nextIn w = nibble 4 w
 
+-- SelectorPresets: OK_TO_USE bits 3-0, bay b's is bit b
 abbrev pub okIn : ℕ → ℕ → Bool
 okIn b w = bit b w

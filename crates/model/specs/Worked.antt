@@ -10,6 +10,7 @@ use Rattle.model.specs.Words.{on}
 use Rattle.model.specs.Reads.{output}
 use Rattle.model.specs.Step.{stepSpec}
 
+-- an event, its answer, and the output and the notice after it
 pub record Row : Type 0 where
   pub event : Event
   pub answer : Said
@@ -17,6 +18,7 @@ pub record Row : Type 0 where
   pub millivolts : ℕ
   pub notice : ℕ
 
+-- a row, in the order of the listing
 abbrev pub row : Event → Said → ℕ → ℕ → ℕ → Row
 row e a ma mv n = record { event = e; answer = a; milliamps = ma; millivolts = mv; notice = n }
 
@@ -45,8 +47,8 @@ listing =
     ∷ []
 
 -- its charger words, with ChargerStatus at power-on, after its line 6 and after its line 8
-unfoldable pub statusRead : List Row
-statusRead =
+unfoldable pub statusWords : List Row
+statusWords =
     row (HostRead 0x12 0x13) (word 0x0310) 0 0 0
     ∷ row (Ac true) done 0 0 1
     ∷ row (Insertion 0) done 0 0 1
