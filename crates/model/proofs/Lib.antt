@@ -15,5 +15,6 @@ pub mod Origin
 pub mod Good
 pub mod Heard
 pub mod Candidates
+pub mod Settled
 pub mod Theorems
 pub mod Unique

@@ -1,5 +1,5 @@
 -- Every promise of `specs/Promises.antt`, proved: a line each, with the file that has the argument.
-use Rattle.model.specs.Promises.{OutputIsTold, ExactlyEight, CutToTheLimits, FactsCanHold, CountedFrom, RunsOut, RefusalChangesNothing, PowerOnIsGood, AlwaysGood, Never15, TicksAndAcHeard, RefusalsApart, AnswersApart, StepsApart, KindsApart, SupplyKept, TableHolds, TimersHold, WorkedRunsHold}
+use Rattle.model.specs.Promises.{OutputIsTold, ExactlyEight, CutToTheLimits, FactsCanHold, CountedFrom, RunsOut, RefusalChangesNothing, PowerOnIsGood, AlwaysGood, Never15, TicksAndAcHeard, RefusalsApart, AnswersApart, StepsApart, KindsApart, SupplyKept, AllSettled, TableHolds, TimersHold, WorkedRunsHold}
 use Rattle.model.proofs.Demand3
 use Rattle.model.proofs.Exactly
 use Rattle.model.proofs.Origin
@@ -8,6 +8,7 @@ use Rattle.model.proofs.Good
 use Rattle.model.proofs.Heard
 use Rattle.model.proofs.Numbers
 use Rattle.model.proofs.Candidates
+use Rattle.model.proofs.Settled
 use Rattle.model.proofs.ByComputing
 
 pub output-is-told : OutputIsTold
@@ -57,6 +58,9 @@ kinds-apart = Numbers.kinds-apart
 
 pub supply-kept : SupplyKept
 supply-kept = Candidates.supply-kept
+
+pub all-settled : AllSettled
+all-settled = Settled.all-settled
 
 pub table-holds : TableHolds
 table-holds = ByComputing.table-holds

@@ -16,6 +16,7 @@ use Rattle.model.specs.Board.{noOutput}
 use Rattle.model.specs.Events.{Kind, currentWord, voltageWord, kindNumber}
 use Rattle.model.specs.Bays.{bayAt, candidate}
 use Rattle.model.specs.Machines.{programSetup, powerOn}
+use Rattle.model.specs.Settling.{settle}
 use Rattle.model.specs.Reads.{output}
 use Rattle.model.specs.Refusals.{goodSetup, badMachine}
 use Rattle.model.specs.Step.{told, stepSpec, powerOnSpec}
@@ -101,6 +102,10 @@ abbrev pub SupplyKept : Type 0
 SupplyKept =
     (s : Setup) (es : List Event) → run s es .ac ≡ false →
     (run s es .selector .power ≡ 0) ↔ ((b : ℕ) → b < 4 → candidate (bayAt (run s es .bays) b) ≡ false)
+
+-- every machine of a run is settled: the three steps once more would change nothing
+abbrev pub AllSettled : Type 0
+AllSettled = (s : Setup) (es : List Event) → settle (run s es) ≡ run s es
 
 -- COMPUTED
 
