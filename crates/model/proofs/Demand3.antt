@@ -1,7 +1,7 @@
 -- Demand 3: the output of a run is told from what was said alone.
 use Prim.Native.Nat.{ℕ}
 use mathlib.Core.Path.{_≡_, refl}
-use mathlib.Core.Bool.{Bool, true, false, not, cond, _&&_, and-true, and-false, and-comm, and-assoc, Bool·not-not}
+use mathlib.Core.Bool.{Bool, true, false, not, cond, _&&_, and-true, and-false, and-comm, Bool·not-not}
 use mathlib.Core.List.{List}
 use lib.Dec.{eqb}
 use borrow.Author.Tests.{ltb-true, lt-ltb, eqb-false, ne-eqb, not-true}
@@ -53,7 +53,7 @@ charging-is : (s : Setup) (m : Machine) (h : Past) → Agrees s m h → charging
 unfolding charging eightHold
 charging-is s m h a =
     rw (a .ac-is, a .charge-is, present-at (m .bays) (connected h) h (a .bays-are), signal-at (m .bays) (connected h) h (acPresent h) (a .bays-are))
-    (simp (a .inhibit-is, Bool·not-not, a .hold-is, a .current-is .request-is, a .voltage-is .request-is, still, and-assoc, and-comm, and-swap))
+    (simp (a .inhibit-is, Bool·not-not, a .hold-is, a .current-is .request-is, a .voltage-is .request-is, still, and-comm, and-swap))
 
 under : {A : Type 0} (c : Bool) (x y z : A) → (c ≡ true → x ≡ y) → cond c x z ≡ cond c y z
 under true x y z f = f refl

@@ -75,6 +75,10 @@ badMachine m = not (goodSetup (m .setup)) || strayNibble m || overAge m || stray
 unfoldable pub unsupportedBay : Setup → Event → Bool
 unsupportedBay s e = (fromBay e || atBay e) && not (supports s (bayOf e))
 
+-- 3: address and code don't exist for that sender and direction
+abbrev pub unknownWord : Event → Bool
+unknownWord e = is noSuchWord e
+
 -- 4: bay word from a bay that is absent or not the CHARGE bay
 unfoldable pub notChargingBay : Machine → Event → Bool
 notChargingBay m e = fromBay e && (not (bayAt (m .bays) (bayOf e) .present) || not (names (m .selector .charge) (bayOf e)))
@@ -136,7 +140,7 @@ wrongPresence m e =
 unfoldable pub fault : Machine → Event → ℕ
 fault m e =
     if unsupportedBay (m .setup) e then 2
-    else if is noSuchWord e then 3
+    else if unknownWord e then 3
     else if notChargingBay m e then 4
     else if badNibble (m .setup) e then 5
     else if is stateWord e && smbElsewhere (wordOf e) then 6
