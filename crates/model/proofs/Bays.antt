@@ -18,6 +18,7 @@ use Rattle.model.specs.Events.{presetsWord, insertion, removal, signal, 
 use Rattle.model.specs.Bays.{emptyBay, bayAt, bayNamed, presentAfter, readingAfter, bayAfter, baysAfter, okWritten, allOkWritten}
 use Rattle.model.specs.Machines.{powerOn}
 use Rattle.model.specs.Facts.{Past, holdsPack, packAt, reading}
+use Rattle.model.proofs.Bools.{choose}
 
 pub record BayAgrees (bay : Bay) (b : ℕ) (h : Past) : Type 0 where
   pub present-is : bay .present ≡ holdsPack b h
@@ -39,6 +40,34 @@ below-four P p₀ p₁ p₂ p₃ (suc (suc (suc (suc b)))) l = absurd (omega ari
 pub ok-written-at : (w : ℕ) (bays : List Bay) (b : ℕ) → b < 4 → bayAt (allOkWritten w bays) b ≡ okWritten w b (bayAt bays b)
 unfolding allOkWritten bayAt
 ok-written-at w bays = below-four (λ b. bayAt (allOkWritten w bays) b ≡ okWritten w b (bayAt bays b)) refl refl refl refl
+
+-- bay b after an event: at this bay, at another, a Presets word, or none of these
+pub each-bay : (P : Bay → Type 0) (s : Setup) (bays : List Bay) (e : Event) (b : ℕ) → length bays ≡ 4 → b < 4 →
+    (atBay e ≡ true → eqb (bayOf e) b ≡ true → P (bayAfter s e (bayAt bays b))) →
+    (eqb (bayOf e) b ≡ false → P (bayAt bays b)) →
+    (atBay e ≡ false → P (okWritten (wordOf e) b (bayAt bays b))) →
+    (atBay e ≡ false → P (bayAt bays b)) →
+    P (bayAt (baysAfter s bays e) b)
+unfolding baysAfter bayAt
+each-bay P s bays e b four l here elsewhere presets nowhere =
+    choose (λ x. P (bayAt x b)) (atBay e) _ _ (λ a. at a (eqb (bayOf e) b) refl)
+    (λ a. choose (λ x. P (bayAt x b)) (is presetsWord e) _ _ (λ _. rw (ok-written-at (wordOf e) bays b l) (presets a)) (λ _. nowhere a))
+  where
+    new : Bay
+    new = bayAfter s e (bayAt bays (bayOf e))
+
+    at : atBay e ≡ true → (t : Bool) → eqb (bayOf e) b ≡ t → P (bayAt (set bays (bayOf e) new) b)
+    at a true q =
+        let z : bayOf e ≡ b = eqb-true _ _ q in
+        let n : b < length bays = omega (arith, four) in
+        rw (z, getD-set-same) (here a q)
+    at a false q = rw (getD-set-other bays (bayOf e) b new emptyBay (λ z. eqb-false _ _ q (sym z))) (elsewhere q)
+
+pub four-after : (s : Setup) (bays : List Bay) (e : Event) → length bays ≡ 4 → length (baysAfter s bays e) ≡ 4
+unfolding baysAfter allOkWritten
+four-after s bays e four =
+    choose (λ x. length x ≡ 4) (atBay e) (set bays (bayOf e) (bayAfter s e (bayAt bays (bayOf e)))) _ (λ _. rw length-set four)
+    (λ _. choose (λ x. length x ≡ 4) (is presetsWord e) (allOkWritten (wordOf e) bays) bays (λ _. refl) (λ _. four))
 
 -- at power-on each bay is empty
 pub empty-at : (s : Setup) (b : ℕ) → b < 4 → bayAt (powerOn s .bays) b ≡ emptyBay
@@ -67,27 +96,16 @@ unfolding holdsPack reading isAt bayAfter presentAfter readingAfter
 here s e b h bay q a = record { present-is = simp (q, and-true, a .present-is); reading-is = simp (q, and-true, a .reading-is) }
 
 pub bays-step : (m : Machine) (e : Event) (h : Past) → BaysAgree (m .bays) h → BaysAgree (baysAfter (m .setup) (m .bays) e) (e ∷ h)
-unfolding baysAfter allOkWritten bayAt
-bays-step m e h a = go (atBay e) refl (is presetsWord e)
+bays-step m e h a =
+    record {
+      four = four-after (m .setup) (m .bays) e (a .four);
+      each =
+          λ b l. each-bay (λ x. BayAgrees x b (e ∷ h)) (m .setup) (m .bays) e b (a .four) l (λ at q. here (m .setup) e b h _ q (a .each b l))
+          (λ q. elsewhere e b h _ q (a .each b l)) (λ q. nowhere e b h _ q (marked b l)) (λ q. nowhere e b h _ q (a .each b l));
+    }
   where
-    new : Bay
-    new = bayAfter (m .setup) e (bayAt (m .bays) (bayOf e))
-
-    at : (b : ℕ) → b < 4 → (t : Bool) → eqb (bayOf e) b ≡ t → BayAgrees (bayAt (set (m .bays) (bayOf e) new) b) b (e ∷ h)
-    at b l true q =
-        let z : bayOf e ≡ b = eqb-true _ _ q in
-        let n : b < length (m .bays) = omega (arith, a .four) in
-        rw (z, getD-set-same) (here (m .setup) e b h (bayAt (m .bays) b) q (a .each b l))
-    at b l false q = rw (getD-set-other (m .bays) (bayOf e) b new emptyBay (λ z. eqb-false _ _ q (sym z))) (elsewhere e b h (bayAt (m .bays) b) q (a .each b l))
-
     marked : (b : ℕ) → b < 4 → BayAgrees (okWritten (wordOf e) b (bayAt (m .bays) b)) b h
     marked b l = record { present-is = a .each b l .present-is; reading-is = a .each b l .reading-is }
-
-    go : (t : Bool) → atBay e ≡ t → (p : Bool) →
-        BaysAgree (cond t (set (m .bays) (bayOf e) new) (cond p (allOkWritten (wordOf e) (m .bays)) (m .bays))) (e ∷ h)
-    go true q p = record { four = rw length-set (a .four); each = λ b l. at b l (eqb (bayOf e) b) refl }
-    go false q true = record { four = refl; each = λ b l. nowhere e b h _ q (rw (ok-written-at (wordOf e) (m .bays) b l) (marked b l)) }
-    go false q false = record { four = a .four; each = λ b l. nowhere e b h _ q (a .each b l) }
 
 -- what a nibble names
 pub number-small : (n : ℕ) → bayNumber n < 4

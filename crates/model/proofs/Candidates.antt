@@ -1,5 +1,5 @@
 -- With AC absent POWER_BY is without a bay exactly when no candidate exists.
-use Prim.Native.Nat.{ℕ, _<_}
+use Prim.Native.Nat.{ℕ}
 use mathlib.Core.Path.{_≡_, refl, sym, _∙_}
 use mathlib.Core.Logic.{_↔_}
 use mathlib.Core.Bool.{Bool, true, false, not, cond, _&&_, true≢false, false≢true}
@@ -10,42 +10,29 @@ use Rattle.model.specs.declared.Machine.{Machine}
 use Rattle.model.specs.Words.{named, bayNumber}
 use Rattle.model.specs.Bays.{emptyBay, bayAt, bayNamed, candidate}
 use Rattle.model.specs.Machines.{powerOn, act}
-use Rattle.model.specs.Settling.{keptPower, unpowered, firstOf, takesOver, settledPower, settle}
+use Rattle.model.specs.Settling.{keptPower, unpowered, settledPower, settle}
 use Rattle.model.specs.Promises.{SupplyKept}
 use Rattle.model.proofs.Bools.{choose}
-use Rattle.model.proofs.Bays.{below-four, empty-at, number-small}
+use Rattle.model.proofs.Bays.{empty-at, number-small}
+use Rattle.model.proofs.Taking.{NoCandidate, of-taken}
 use Rattle.model.proofs.Induction.{along}
 
 -- the nibble n is 0 exactly when no bay is a candidate
 abbrev Tells : List Bay → ℕ → Type 0
-Tells bays n = (n ≡ 0) ↔ ((b : ℕ) → b < 4 → candidate (bayAt bays b) ≡ false)
+Tells bays n = (n ≡ 0) ↔ NoCandidate bays
 
-module _ (bays : List Bay) where
-  by-candidate : (n : ℕ) → candidate (bayNamed bays n) ≡ true → Tells bays n
-  unfolding bayNamed candidate named
-  by-candidate n = go (named n) refl
-    where
-      go : (t : Bool) → named n ≡ t → candidate (cond t (bayAt bays (bayNumber n)) emptyBay) ≡ true → Tells bays n
-      go true k c = (λ z. absurd (false≢true (rw z at k)), λ none. absurd (true≢false (sym c ∙ none (bayNumber n) (number-small n))))
-      go false k c = absurd (false≢true c)
-
-  by-first : Tells bays (firstOf bays)
-  unfolding firstOf bayNamed named bayNumber
-  by-first =
-      choose (Tells bays) (candidate (bayNamed bays 1)) 1 _ (by-candidate 1)
-      (λ q₀. choose (Tells bays) (candidate (bayNamed bays 2)) 2 _ (by-candidate 2)
-      (λ q₁. choose (Tells bays) (candidate (bayNamed bays 4)) 4 _ (by-candidate 4)
-      (λ q₂. choose (Tells bays) (candidate (bayNamed bays 8)) 8 _ (by-candidate 8)
-      (λ q₃. (λ _. below-four (λ b. candidate (bayAt bays b) ≡ false) q₀ q₁ q₂ q₃, λ _. refl)))))
-
-  by-taking : (wanted : ℕ) → Tells bays (takesOver bays wanted)
-  unfolding takesOver
-  by-taking wanted = choose (Tells bays) (candidate (bayNamed bays wanted)) wanted _ (by-candidate wanted) (λ _. by-first)
+by-candidate : (bays : List Bay) (n : ℕ) → candidate (bayNamed bays n) ≡ true → Tells bays n
+unfolding bayNamed candidate named
+by-candidate bays n = go (named n) refl
+  where
+    go : (t : Bool) → named n ≡ t → candidate (cond t (bayAt bays (bayNumber n)) emptyBay) ≡ true → Tells bays n
+    go true k c = (λ z. absurd (false≢true (rw z at k)), λ none. absurd (true≢false (sym c ∙ none (bayNumber n) (number-small n))))
+    go false k c = absurd (false≢true c)
 
 settled : (m : Machine) → m .ac ≡ false → Tells (m .bays) (settledPower m)
 unfolding settledPower unpowered keptPower
 settled m q =
-    choose (Tells (m .bays)) (unpowered m) _ _ (λ _. by-taking (m .bays) (m .selector .next))
+    choose (Tells (m .bays)) (unpowered m) _ _ (λ _. of-taken (Tells (m .bays)) (m .bays) (by-candidate (m .bays)) (λ none. (λ _. none, λ _. refl)) (m .selector .next))
     (kept (candidate (bayNamed (m .bays) (m .selector .power))) refl)
   where
     kept : (t : Bool) → candidate (bayNamed (m .bays) (m .selector .power)) ≡ t →

@@ -4,9 +4,8 @@ use mathlib.Core.Path.{_≡_, refl, sym, _∙_}
 use mathlib.Core.Bool.{Bool, true, false, not, cond, _&&_, _||_, true≢false, and-true, or-true}
 use mathlib.Core.List.{List}
 use lib.Dec.{ltb, eqb}
-use lib.ListN.{set, length, length-set}
-use lib.Seq.{getD-set-same, getD-set-other}
-use borrow.Author.Tests.{ltb-true, le-ltb, eqb-true, eqb-false, not-true, not-false}
+use lib.ListN.{length}
+use borrow.Author.Tests.{ltb-true, le-ltb, eqb-true, not-true, not-false}
 use native.Mathlib.Omega.{arith}
 use Rattle.model.specs.declared.Setup.{Setup}
 use Rattle.model.specs.declared.Bay.{Bay}
@@ -15,11 +14,11 @@ use Rattle.model.specs.declared.Event.{Event}
 use Rattle.model.specs.declared.Machine.{Machine}
 use Rattle.model.specs.Words.{bit, named, bayNumber, smbIn, powerIn, chargeIn, nextIn}
 use Rattle.model.specs.Events.{Kind, stateWord, presetsWord, insertion, removal, tick, is, atBay, wordOf, bayOf, fromBay, connects}
-use Rattle.model.specs.Bays.{emptyBay, bayAt, bayNamed, candidate, presentAfter, okAfter, lowAfter, readingAfter, bayAfter, okWritten, allOkWritten, baysAfter}
+use Rattle.model.specs.Bays.{emptyBay, bayAt, bayNamed, candidate, presentAfter, okAfter, lowAfter, readingAfter, bayAfter, okWritten, baysAfter}
 use Rattle.model.specs.SelectorRules.{acArrives, written, smbAfter, powerAfter, dropsCharge, chargeAfter, nextAfter}
 use Rattle.model.specs.ChargerRules.{ageAfter}
 use Rattle.model.specs.Machines.{programSetup, powerOn, act}
-use Rattle.model.specs.Settling.{keptSmb, keptPower, unpowered, firstOf, takesOver, settledPower, settledSmb, settle}
+use Rattle.model.specs.Settling.{settledPower, settle}
 use Rattle.model.specs.Refusals.{supports, oneBay, goodLimit, goodSetup, strayNibble, overAge, wasRead, strayBay, strayBays, badMachine, unsupportedBay, formed, stateFormed, badNibble, wrongPresence}
 use Rattle.model.specs.Numbers.{done, refused}
 use Rattle.model.specs.Step.{Told, powerOnSpec}
@@ -27,7 +26,8 @@ use Rattle.model.specs.Promises.{PowerOnIsGood, AlwaysGood}
 use Rattle.model.proofs.Bools.{choose, and-l, and-r, or-l, or-r, or-then, and-then}
 use Rattle.model.proofs.Passes.{Passes}
 use Rattle.model.proofs.Induction.{along}
-use Rattle.model.proofs.Bays.{ok-written-at, empty-at, number-small}
+use Rattle.model.proofs.Taking.{of-power, of-smb}
+use Rattle.model.proofs.Bays.{each-bay, four-after, empty-at, number-small}
 
 -- 0 or one supported bay
 One : Setup → ℕ → Type 0
@@ -38,7 +38,7 @@ Bayed : Setup → List Bay → Type 0
 Bayed s bays = (b : ℕ) → b < 4 → strayBay s b (bayAt bays b) ≡ false
 
 -- what 15 asks of a machine, part by part
-pub record Good (m : Machine) : Type 0 where
+record Good (m : Machine) : Type 0 where
   setup : goodSetup (m .setup) ≡ true
   smb : One (m .setup) (m .selector .smb)
   power : One (m .setup) (m .selector .power)
@@ -49,9 +49,9 @@ pub record Good (m : Machine) : Type 0 where
   four : length (m .bays) ≡ 4
   bays : Bayed (m .setup) (m .bays)
 
-accepted : (m : Machine) → Good m → badMachine m ≡ false
+good-accepted : (m : Machine) → Good m → badMachine m ≡ false
 unfolding badMachine strayNibble overAge strayBays One Bayed
-accepted m g =
+good-accepted m g =
     simp (g .setup, g .smb, g .power, g .charge, g .next, le-ltb 175 _ (g .current-age), le-ltb 175 _ (g .voltage-age), g .bays 0 (omega arith), g .bays 1 (omega arith), g .bays 2 (omega arith), g .bays 3 (omega arith))
 
 -- ages
@@ -97,34 +97,10 @@ module _ (m : Machine) (e : Event) (p : Passes m e) (g : Good m) where
       go false false false p₁ p₂ p₃ = absurd (true≢false (sym (simp (p₁, p₂) at at) ∙ simp (z, p₁, p₂, p₃, and-true) at (p .right-presence)))
 
   bays-good : Bayed (m .setup) (baysAfter (m .setup) (m .bays) e)
-  unfolding Bayed baysAfter bayAt
-  bays-good b l = go (atBay e) (is presetsWord e) refl
-    where
-      new : Bay
-      new = bayAfter (m .setup) e (bayAt (m .bays) (bayOf e))
-
-      n : b < length (m .bays)
-      n = omega (arith, g .four)
-
-      at : atBay e ≡ true → (t : Bool) → eqb (bayOf e) b ≡ t → strayBay (m .setup) b (bayAt (set (m .bays) (bayOf e) new) b) ≡ false
-      at q true r = let z : bayOf e ≡ b = eqb-true _ _ r in rw (z, getD-set-same, n) (here-good b z q)
-      at q false r = rw (getD-set-other (m .bays) (bayOf e) b new emptyBay (λ z. eqb-false _ _ r (sym z))) (g .bays b l)
-
-      go : (t o : Bool) → atBay e ≡ t →
-          strayBay (m .setup) b (bayAt (cond t (set (m .bays) (bayOf e) new) (cond o (allOkWritten (wordOf e) (m .bays)) (m .bays))) b) ≡ false
-      go true o q = at q (eqb (bayOf e) b) refl
-      go false true q = rw (ok-written-at (wordOf e) (m .bays) b l) (ok-good (m .setup) b (wordOf e) (bayAt (m .bays) b) (g .bays b l))
-      go false false q = g .bays b l
-
-  four-after : length (baysAfter (m .setup) (m .bays) e) ≡ 4
-  unfolding baysAfter allOkWritten
-  four-after = go (atBay e) (is presetsWord e)
-    where
-      go : (t o : Bool) →
-          length (cond t (set (m .bays) (bayOf e) (bayAfter (m .setup) e (bayAt (m .bays) (bayOf e)))) (cond o (allOkWritten (wordOf e) (m .bays)) (m .bays))) ≡ 4
-      go true o = rw length-set (g .four)
-      go false true = refl
-      go false false = g .four
+  unfolding Bayed
+  bays-good b l =
+      each-bay (λ x. strayBay (m .setup) b x ≡ false) (m .setup) (m .bays) e b (g .four) l (λ at q. here-good b (eqb-true _ _ q) at)
+      (λ _. g .bays b l) (λ _. ok-good (m .setup) b (wordOf e) (bayAt (m .bays) b) (g .bays b l)) (λ _. g .bays b l)
 
 -- nibbles: none, a candidate's, the written
 
@@ -132,38 +108,16 @@ none-one : (s : Setup) → One s 0
 unfolding One oneBay
 none-one s = refl
 
-module _ (s : Setup) (bays : List Bay) (g : Bayed s bays) where
-  fits : (n : ℕ) → named n ≡ true → candidate (bayNamed bays n) ≡ true → supports s (bayNumber n) ≡ true
-  unfolding Bayed candidate bayNamed strayBay
-  fits n k c =
-      let c′ : (bayAt bays (bayNumber n) .present && bayAt bays (bayNumber n) .ok && not (bayAt bays (bayNumber n) .low)) ≡ true = rw k at c in
-      let q : bayAt bays (bayNumber n) .present ≡ true = search (and-l, and-r) in
-      not-false _ (or-l _ _ (rw q at (g (bayNumber n) (number-small n))))
+candidate-one : (s : Setup) (bays : List Bay) → Bayed s bays → (n : ℕ) → candidate (bayNamed bays n) ≡ true → One s n
+unfolding One oneBay Bayed candidate bayNamed strayBay
+candidate-one s bays g n = go (named n) refl
+  where
+    supported-bay : bayAt bays (bayNumber n) .present ≡ true → supports s (bayNumber n) ≡ true
+    supported-bay q = not-false _ (or-l _ _ (rw q at (g (bayNumber n) (number-small n))))
 
-  first-one : One s (firstOf bays)
-  unfolding One firstOf oneBay named
-  first-one =
-      choose (One s) _ 1 _ (fits 1 refl)
-      (λ _. choose (One s) _ 2 _ (fits 2 refl)
-      (λ _. choose (One s) _ 4 _ (fits 4 refl)
-      (λ _. choose (One s) _ 8 _ (fits 8 refl) (λ _. none-one s))))
-
-  takes-one : (next : ℕ) → One s next → One s (takesOver bays next)
-  unfolding takesOver
-  takes-one next w = choose (One s) (candidate (bayNamed bays next)) _ _ (λ _. w) (λ _. first-one)
-
-module _ (m : Machine) (g : Bayed (m .setup) (m .bays)) (w : One (m .setup) (m .selector .next)) (p : One (m .setup) (m .selector .power)) where
-  power-one : One (m .setup) (settledPower m)
-  unfolding settledPower keptPower
-  power-one =
-      choose (One (m .setup)) (unpowered m) _ _ (λ _. takes-one (m .setup) (m .bays) g (m .selector .next) w)
-      (λ _. choose (One (m .setup)) (candidate (bayNamed (m .bays) (m .selector .power))) _ _ (λ _. p) (λ _. none-one (m .setup)))
-
-  smb-one : One (m .setup) (m .selector .smb) → One (m .setup) (settledSmb m)
-  unfolding settledSmb keptSmb
-  smb-one q =
-      choose (One (m .setup)) (unpowered m && not (eqb (settledPower m) 0)) _ _ (λ _. power-one)
-      (λ _. choose (One (m .setup)) (bayNamed (m .bays) (m .selector .smb) .present) _ _ (λ _. q) (λ _. none-one (m .setup)))
+    go : (t : Bool) → named n ≡ t → candidate (cond t (bayAt bays (bayNumber n)) emptyBay) ≡ true → (eqb n 0 || t && supports s (bayNumber n)) ≡ true
+    go true k c = rw (supported-bay (search and-l), or-true)
+    go false k c = absurd (true≢false (sym c))
 
 module _ (m : Machine) (e : Event) (p : Passes m e) (g : Good m) where
   -- each nibble of a SelectorState word is 0xF or has the form
@@ -207,18 +161,22 @@ module _ (m : Machine) (e : Event) (p : Passes m e) (g : Good m) where
   unfolding nextAfter
   next-after = choose (One (m .setup)) (is presetsWord e) _ _ presets-formed (λ _. g .next)
 
+  power-one : One (m .setup) (settledPower (act m e))
+  unfolding act
+  power-one = of-power (One (m .setup)) (act m e) (candidate-one (m .setup) _ (bays-good m e p g)) (none-one (m .setup))
+
   good-step : Good (settle (act m e))
   unfolding settle act
   good-step =
       record {
         setup = g .setup;
-        smb = smb-one (act m e) (bays-good m e p g) next-after power-after smb-after;
-        power = power-one (act m e) (bays-good m e p g) next-after power-after;
+        smb = of-smb (One (m .setup)) (act m e) power-one (λ _. smb-after) (none-one (m .setup));
+        power = power-one;
         charge = charge-after;
         next = next-after;
         current-age = age-small _ _ _ _ (g .current-age);
         voltage-age = age-small _ _ _ _ (g .voltage-age);
-        four = four-after m e p g;
+        four = four-after (m .setup) (m .bays) e (g .four);
         bays = bays-good m e p g;
       }
 
@@ -243,8 +201,8 @@ power-on-is-good s = go (goodSetup s) refl
   where
     go : (t : Bool) → goodSetup s ≡ t →
         badMachine (cond {A = Told} t (record { answer = done; machine = powerOn s }) (record { answer = refused 1; machine = powerOn programSetup }) .machine) ≡ false
-    go true q = accepted _ (good-power-on s q)
-    go false q = accepted _ (good-power-on programSetup refl)
+    go true q = good-accepted _ (good-power-on s q)
+    go false q = good-accepted _ (good-power-on programSetup refl)
 
 pub always-good : AlwaysGood
-always-good s g es = accepted _ (along (λ m h. Good m) (λ m e h p v. good-step m e p v) s (good-power-on s g) es)
+always-good s g es = good-accepted _ (along (λ m h. Good m) (λ m e h p v. good-step m e p v) s (good-power-on s g) es)

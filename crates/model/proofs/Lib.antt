@@ -12,6 +12,7 @@ pub mod Registers
 pub mod Demand3
 pub mod Exactly
 pub mod Origin
+pub mod Taking
 pub mod Good
 pub mod Heard
 pub mod Candidates

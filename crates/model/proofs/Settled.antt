@@ -14,6 +14,7 @@ use Rattle.model.specs.Machines.{withSelector, withNotice, powerOn, act}
 use Rattle.model.specs.Settling.{keptSmb, keptPower, unpowered, firstOf, takesOver, settledPower, settledSmb, powerChanged, settle}
 use Rattle.model.specs.Promises.{AllSettled}
 use Rattle.model.proofs.Bools.{choose}
+use Rattle.model.proofs.Taking.{of-power, of-smb}
 use Rattle.model.proofs.Induction.{along}
 
 -- a nibble that step two keeps, and one that step one keeps
@@ -32,29 +33,9 @@ module _ (bays : List Bay) where
   unfolding keptPower bayNamed named candidate
   powers-none = refl
 
-  powers-first : Powers (firstOf bays)
-  unfolding firstOf
-  powers-first =
-      choose Powers (candidate (bayNamed bays 1)) 1 _ (powers-candidate 1)
-      (λ _. choose Powers (candidate (bayNamed bays 2)) 2 _ (powers-candidate 2)
-      (λ _. choose Powers (candidate (bayNamed bays 4)) 4 _ (powers-candidate 4)
-      (λ _. choose Powers (candidate (bayNamed bays 8)) 8 _ (powers-candidate 8) (λ _. powers-none))))
-
-  powers-taken : (wanted : ℕ) → Powers (takesOver bays wanted)
-  unfolding takesOver
-  powers-taken wanted = choose Powers (candidate (bayNamed bays wanted)) wanted _ (powers-candidate wanted) (λ _. powers-first)
-
-  powers-kept : (n : ℕ) → Powers (keptPower bays n)
-  unfolding keptPower
-  powers-kept n = choose Powers (candidate (bayNamed bays n)) n 0 (powers-candidate n) (λ _. powers-none)
-
   speaks-none : Speaks 0
   unfolding keptSmb bayNamed named
   speaks-none = refl
-
-  speaks-kept : (n : ℕ) → Speaks (keptSmb bays n)
-  unfolding keptSmb
-  speaks-kept n = choose Speaks (bayNamed bays n .present) n 0 (λ q. rw q) (λ _. speaks-none)
 
   -- a power bay is present
   speaks-power : (n : ℕ) → Powers n → Speaks n
@@ -67,15 +48,11 @@ module _ (bays : List Bay) where
 
 module _ (m : Machine) where
   power-settled : Powers (m .bays) (settledPower m)
-  unfolding settledPower
-  power-settled =
-      choose (Powers (m .bays)) (unpowered m) _ _ (λ _. powers-taken (m .bays) (m .selector .next)) (λ _. powers-kept (m .bays) (m .selector .power))
+  power-settled = of-power (Powers (m .bays)) m (powers-candidate (m .bays)) (powers-none (m .bays))
 
   smb-settled : Speaks (m .bays) (settledSmb m)
-  unfolding settledSmb
-  smb-settled =
-      choose (Speaks (m .bays)) (unpowered m && not (eqb (settledPower m) 0)) _ _ (λ _. speaks-power (m .bays) (settledPower m) power-settled)
-      (λ _. speaks-kept (m .bays) (m .selector .smb))
+  unfolding keptSmb
+  smb-settled = of-smb (Speaks (m .bays)) m (speaks-power (m .bays) (settledPower m) power-settled) (λ q. rw q) (speaks-none (m .bays))
 
   -- the same steps once more
 
