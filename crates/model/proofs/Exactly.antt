@@ -53,7 +53,7 @@ unheard s = along (λ m h. goodSetup (m .setup) ≡ false → h ≡ []) kept s (
     kept m e h p a q = absurd (true≢false (sym (good-passes m (p .good)) ∙ q))
 
 -- so where the facts hold the setup is good
-good-setup : (s : Setup) (es : List Event) → Eight s (past s es) → goodSetup s ≡ true
+pub good-setup : (s : Setup) (es : List Event) → Eight s (past s es) → goodSetup s ≡ true
 unfolding acPresent
 good-setup s es x = go (goodSetup s) refl
   where
@@ -88,7 +88,7 @@ exactly-eight s es = (
   λ x z. positive s (past s es) (good-setup s es x) x (sym (cut-to-the-limits s es x) ∙ z),
 )
 
-zero-unless : (s : Setup) (es : List Event) → (Eight s (past s es) → ⊥) → output (run s es) ≡ noOutput
+pub zero-unless : (s : Setup) (es : List Event) → (Eight s (past s es) → ⊥) → output (run s es) ≡ noOutput
 zero-unless s es n = ⊎-elim (λ x. absurd (n x)) (λ y. output-is-told s es ∙ y .1) (decide s (past s es))
 
 pub runs-out : RunsOut

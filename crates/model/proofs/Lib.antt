@@ -15,6 +15,7 @@ pub mod Origin
 pub mod Taking
 pub mod Good
 pub mod Heard
+pub mod Later
 pub mod Candidates
 pub mod Settled
 pub mod Theorems

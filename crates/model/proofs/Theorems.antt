@@ -1,11 +1,12 @@
 -- Every promise of `specs/Promises.antt`, proved: a line each, with the file that has the argument.
-use Rattle.model.specs.Promises.{OutputIsTold, ExactlyEight, CutToTheLimits, FactsCanHold, CountedFrom, RunsOut, RefusalChangesNothing, PowerOnIsGood, AlwaysGood, Never15, TicksAndAcHeard, RefusalsApart, AnswersApart, StepsApart, KindsApart, SupplyKept, AllSettled, TableHolds, TimersHold, WorkedRunsHold}
+use Rattle.model.specs.Promises.{OutputIsTold, ExactlyEight, CutToTheLimits, FactsCanHold, CountedFrom, RunsOut, RunsOutWhateverComes, RefusalChangesNothing, PowerOnIsGood, AlwaysGood, Never15, TicksAndAcHeard, RefusalsApart, AnswersApart, StepsApart, KindsApart, SupplyKept, AllSettled, TableHolds, TimersHold, WorkedRunsHold}
 use Rattle.model.proofs.Demand3
 use Rattle.model.proofs.Exactly
 use Rattle.model.proofs.Origin
 use Rattle.model.proofs.Passes
 use Rattle.model.proofs.Good
 use Rattle.model.proofs.Heard
+use Rattle.model.proofs.Later
 use Rattle.model.proofs.Numbers
 use Rattle.model.proofs.Candidates
 use Rattle.model.proofs.Settled
@@ -28,6 +29,9 @@ counted-from = Origin.counted-from
 
 pub runs-out : RunsOut
 runs-out = Exactly.runs-out
+
+pub runs-out-whatever-comes : RunsOutWhateverComes
+runs-out-whatever-comes = Later.runs-out-whatever-comes
 
 pub refusal-changes-nothing : RefusalChangesNothing
 refusal-changes-nothing = Passes.refusal-changes-nothing

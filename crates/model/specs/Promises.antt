@@ -3,7 +3,7 @@ use Prim.Native.Nat.{ℕ, _≤_, _<_}
 use mathlib.Core.Path.{_≡_}
 use mathlib.Core.Logic.{_↔_, _⊎_}
 use mathlib.Core.Bool.{Bool, true, false}
-use mathlib.Core.List.{List}
+use mathlib.Core.List.{List, _++_}
 use Rattle.model.specs.declared.Setup.{Setup}
 use Rattle.model.specs.declared.Event.{Event}
 use Rattle.model.specs.declared.Event.the-variants.{Ac, Tick}
@@ -13,15 +13,15 @@ use Rattle.model.specs.declared.Stepped.{Stepped}
 use Rattle.model.specs.declared.Refusal.{Refusal}
 use Rattle.model.specs.Numbers.{numberOf, done, refused, said}
 use Rattle.model.specs.Board.{noOutput}
-use Rattle.model.specs.Events.{Kind, currentWord, voltageWord, kindNumber}
+use Rattle.model.specs.Events.{Kind, currentWord, voltageWord, kindNumber, is}
 use Rattle.model.specs.Bays.{bayAt, candidate}
 use Rattle.model.specs.Machines.{programSetup, powerOn}
 use Rattle.model.specs.Settling.{settle}
 use Rattle.model.specs.Reads.{output}
 use Rattle.model.specs.Refusals.{goodSetup, badMachine}
 use Rattle.model.specs.Step.{told, stepSpec, powerOnSpec}
-use Rattle.model.specs.Facts.{ticksSince, Eight, requested, outputTold}
-use Rattle.model.specs.Runs.{run, past}
+use Rattle.model.specs.Facts.{some, ticks, ticksSince, Eight, requested, outputTold}
+use Rattle.model.specs.Runs.{run, past, heardFrom}
 use Rattle.model.specs.Origin.{Counted}
 use Rattle.model.specs.Table.{charge, table, timers, allSeen, allValues}
 use Rattle.model.specs.Worked.{Row, rerun, listing, statusWords, chargerAtWork, selectorAtWork}
@@ -54,6 +54,14 @@ RunsOut =
     (s : Setup) (es : List Event) →
     (175 ≤ ticksSince currentWord (past s es)) ⊎ (175 ≤ ticksSince voltageWord (past s es)) →
     output (run s es) ≡ noOutput
+
+-- the same of the list itself: after any events, once 175 ticks came among later ones of which no current word, or no voltage
+-- word, was accepted
+abbrev pub RunsOutWhateverComes : Type 0
+RunsOutWhateverComes =
+    (s : Setup) (es later : List Event) → 175 ≤ ticks later →
+    (some (is currentWord) (heardFrom (run s es) later) ≡ false) ⊎ (some (is voltageWord) (heardFrom (run s es) later) ≡ false) →
+    output (run s (es ++ later)) ≡ noOutput
 
 -- REFUSALS
 

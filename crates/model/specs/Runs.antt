@@ -28,3 +28,7 @@ history s es = saidFrom (powerOn s) [] es
 -- the accepted events of a run, the latest first
 abbrev pub past : Setup → List Event → Past
 past s es = accepted (history s es)
+
+-- the accepted ones of a list of events that goes on from the machine m
+abbrev pub heardFrom : Machine → List Event → Past
+heardFrom m es = accepted (saidFrom m [] es)
