@@ -15,7 +15,7 @@ use Rattle.model.specs.declared.Machine.{Machine}
 use Rattle.model.specs.Words.{bit, named, bayNumber, smbIn, powerIn, chargeIn, nextIn}
 use Rattle.model.specs.Events.{Kind, stateWord, presetsWord, insertion, removal, tick, is, atBay, wordOf, bayOf, fromBay, connects}
 use Rattle.model.specs.Bays.{emptyBay, bayAt, bayNamed, candidate, presentAfter, okAfter, lowAfter, readingAfter, bayAfter, okWritten, baysAfter}
-use Rattle.model.specs.SelectorRules.{acArrives, written, smbAfter, powerAfter, dropsCharge, chargeAfter, nextAfter}
+use Rattle.model.specs.SelectorRules.{written, smbAfter, dropsCharge, chargeAfter, nextAfter}
 use Rattle.model.specs.ChargerRules.{ageAfter}
 use Rattle.model.specs.Machines.{programSetup, powerOn, act}
 use Rattle.model.specs.Settling.{settledPower, settle}
@@ -143,12 +143,6 @@ module _ (m : Machine) (e : Event) (p : Passes m e) (g : Good m) where
   smb-after : One (m .setup) (smbAfter m e)
   unfolding smbAfter
   smb-after = choose (One (m .setup)) (is stateWord e) _ _ (written-one _ _ (λ q. state-formed q .0) (g .smb)) (λ _. g .smb)
-
-  power-after : One (m .setup) (powerAfter m e)
-  unfolding powerAfter
-  power-after =
-      choose (One (m .setup)) (is stateWord e) _ _ (written-one _ _ (λ q. state-formed q .1) (g .power))
-      (λ _. choose (One (m .setup)) (acArrives m e) _ _ (λ _. none-one _) (λ _. g .power))
 
   charge-after : One (m .setup) (chargeAfter m e)
   unfolding chargeAfter connects
