@@ -2,9 +2,10 @@
 use mathlib.Core.Path.{refl}
 use native.Mathlib.Omega.{arith}
 use Rattle.model.specs.Facts.{hear, accepted, latest, since, some, ticks, acPresent, holdsPack, packAt, disconnects, connected, reading, uninhibited, freshStart, sinceFresh, asked, ticksSince, held}
+use Rattle.model.specs.Machines.{programSetup, fourBaySetup}
 use Rattle.model.specs.Runs.{saidFrom, history}
 use Rattle.model.specs.Table.{seen, table, timers, allSeen, allValues}
-use Rattle.model.specs.Worked.{rowOf, rerun, listing, statusWords, chargerAtWork, selectorAtWork}
+use Rattle.model.specs.Worked.{rowOf, rerun, listing, statusWords, chargerAtWork, selectorAtWork, fourBaysAtWork}
 use Rattle.model.specs.Promises.{FactsCanHold, TableHolds, TimersHold, Comes}
 use Rattle.model.proofs.Computes.{computes}
 
@@ -16,21 +17,25 @@ pub timers-hold : TimersHold
 unfolding computes seen timers allSeen allValues
 timers-hold = refl
 
-pub listing-comes : Comes listing
+pub listing-comes : Comes programSetup listing
 unfolding computes rowOf rerun listing
 listing-comes = refl
 
-pub status-comes : Comes statusWords
+pub status-comes : Comes programSetup statusWords
 unfolding computes rowOf rerun statusWords
 status-comes = refl
 
-pub charger-comes : Comes chargerAtWork
+pub charger-comes : Comes programSetup chargerAtWork
 unfolding computes rowOf rerun chargerAtWork
 charger-comes = refl
 
-pub selector-comes : Comes selectorAtWork
+pub selector-comes : Comes programSetup selectorAtWork
 unfolding computes rowOf rerun selectorAtWork
 selector-comes = refl
+
+pub four-bays-come : Comes fourBaySetup fourBaysAtWork
+unfolding computes rowOf rerun fourBaysAtWork
+four-bays-come = refl
 
 pub facts-can-hold : FactsCanHold
 unfolding computes history saidFrom hear accepted latest since some ticks acPresent holdsPack packAt disconnects connected reading uninhibited freshStart sinceFresh asked ticksSince held

@@ -8,13 +8,13 @@ use lib.Dec.{eqb}
 use Rattle.model.specs.declared.Bay.{Bay}
 use Rattle.model.specs.declared.Machine.{Machine}
 use Rattle.model.specs.Words.{named, bayNumber}
-use Rattle.model.specs.Bays.{emptyBay, bayAt, bayNamed, candidate}
+use Rattle.model.specs.Bays.{bayNamed, candidate}
 use Rattle.model.specs.Machines.{powerOn, act}
 use Rattle.model.specs.Settling.{keptPower, unpowered, settledPower, settle}
 use Rattle.model.specs.Promises.{SupplyKept}
 use Rattle.model.proofs.Bools.{choose}
 use Rattle.model.proofs.Bays.{empty-at, number-small}
-use Rattle.model.proofs.Taking.{NoCandidate, of-taken}
+use Rattle.model.proofs.Taking.{NoCandidate, of-candidate, of-taken}
 use Rattle.model.proofs.Induction.{along}
 
 -- the nibble n is 0 exactly when no bay is a candidate
@@ -22,12 +22,10 @@ abbrev Tells : List Bay → ℕ → Type 0
 Tells bays n = (n ≡ 0) ↔ NoCandidate bays
 
 by-candidate : (bays : List Bay) (n : ℕ) → candidate (bayNamed bays n) ≡ true → Tells bays n
-unfolding bayNamed candidate named
-by-candidate bays n = go (named n) refl
-  where
-    go : (t : Bool) → named n ≡ t → candidate (cond t (bayAt bays (bayNumber n)) emptyBay) ≡ true → Tells bays n
-    go true k c = (λ z. absurd (false≢true (rw z at k)), λ none. absurd (true≢false (sym c ∙ none (bayNumber n) (number-small n))))
-    go false k c = absurd (false≢true c)
+unfolding named
+by-candidate bays n c =
+    let k = of-candidate bays n c in
+    (λ z. absurd (false≢true (rw z at (k .0))), λ none. absurd (true≢false (sym (k .1) ∙ none (bayNumber n) (number-small n))))
 
 settled : (m : Machine) → m .ac ≡ false → Tells (m .bays) (settledPower m)
 unfolding settledPower unpowered keptPower

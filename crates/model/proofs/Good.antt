@@ -12,9 +12,9 @@ use Rattle.model.specs.declared.Bay.{Bay}
 use Rattle.model.specs.declared.Request.{Request}
 use Rattle.model.specs.declared.Event.{Event}
 use Rattle.model.specs.declared.Machine.{Machine}
-use Rattle.model.specs.Words.{bit, named, bayNumber, smbIn, powerIn, chargeIn, nextIn}
+use Rattle.model.specs.Words.{bit, bayNumber, smbIn, powerIn, chargeIn, nextIn}
 use Rattle.model.specs.Events.{Kind, stateWord, presetsWord, insertion, removal, tick, is, atBay, wordOf, bayOf, fromBay, connects}
-use Rattle.model.specs.Bays.{emptyBay, bayAt, bayNamed, candidate, presentAfter, okAfter, lowAfter, readingAfter, bayAfter, okWritten, baysAfter}
+use Rattle.model.specs.Bays.{bayAt, bayNamed, candidate, presentAfter, okAfter, lowAfter, readingAfter, bayAfter, okWritten, baysAfter}
 use Rattle.model.specs.SelectorRules.{written, smbAfter, dropsCharge, chargeAfter, nextAfter}
 use Rattle.model.specs.ChargerRules.{ageAfter}
 use Rattle.model.specs.Machines.{programSetup, powerOn, act}
@@ -26,7 +26,7 @@ use Rattle.model.specs.Promises.{PowerOnIsGood, AlwaysGood}
 use Rattle.model.proofs.Bools.{choose, and-l, and-r, or-l, or-r, or-then, and-then}
 use Rattle.model.proofs.Passes.{Passes}
 use Rattle.model.proofs.Induction.{along}
-use Rattle.model.proofs.Taking.{of-power, of-smb}
+use Rattle.model.proofs.Taking.{of-candidate, of-power, of-smb}
 use Rattle.model.proofs.Bays.{each-bay, four-after, empty-at, number-small}
 
 -- 0 or one supported bay
@@ -109,15 +109,12 @@ unfolding One oneBay
 none-one s = refl
 
 candidate-one : (s : Setup) (bays : List Bay) → Bayed s bays → (n : ℕ) → candidate (bayNamed bays n) ≡ true → One s n
-unfolding One oneBay Bayed candidate bayNamed strayBay
-candidate-one s bays g n = go (named n) refl
-  where
-    supported-bay : bayAt bays (bayNumber n) .present ≡ true → supports s (bayNumber n) ≡ true
-    supported-bay q = not-false _ (or-l _ _ (rw q at (g (bayNumber n) (number-small n))))
-
-    go : (t : Bool) → named n ≡ t → candidate (cond t (bayAt bays (bayNumber n)) emptyBay) ≡ true → (eqb n 0 || t && supports s (bayNumber n)) ≡ true
-    go true k c = rw (supported-bay (search and-l), or-true)
-    go false k c = absurd (true≢false (sym c))
+unfolding One oneBay Bayed candidate strayBay
+candidate-one s bays g n c =
+    let k = of-candidate bays n c in
+    let q : bayAt bays (bayNumber n) .present ≡ true = and-l _ _ (and-l _ _ (k .1)) in
+    let f : supports s (bayNumber n) ≡ true = not-false _ (or-l _ _ (rw q at (g (bayNumber n) (number-small n)))) in
+    rw (k .0, f, or-true)
 
 module _ (m : Machine) (e : Event) (p : Passes m e) (g : Good m) where
   -- each nibble of a SelectorState word is 0xF or has the form

@@ -1,16 +1,25 @@
 -- The three steps, as a law: what holds of every candidate's nibble, and of 0, holds of POWER_BY and SMB after them.
 use Prim.Native.Nat.{ℕ, _<_}
-use mathlib.Core.Path.{_≡_}
-use mathlib.Core.Bool.{true, false, not, _&&_}
+use mathlib.Core.Path.{_≡_, refl}
+use mathlib.Core.Bool.{Bool, true, false, not, cond, _&&_, false≢true}
 use mathlib.Core.List.{List}
 use lib.Dec.{eqb}
 use Rattle.model.specs.declared.Bay.{Bay}
 use Rattle.model.specs.declared.Machine.{Machine}
 use Rattle.model.specs.Words.{named, bayNumber}
-use Rattle.model.specs.Bays.{bayAt, bayNamed, candidate}
+use Rattle.model.specs.Bays.{emptyBay, bayAt, bayNamed, candidate}
 use Rattle.model.specs.Settling.{keptSmb, keptPower, unpowered, firstOf, takesOver, settledPower, settledSmb}
 use Rattle.model.proofs.Bools.{choose}
 use Rattle.model.proofs.Bays.{below-four}
+
+-- the nibble of a candidate names a bay, and that bay is the candidate
+pub of-candidate : (bays : List Bay) (n : ℕ) → candidate (bayNamed bays n) ≡ true → (named n ≡ true) × (candidate (bayAt bays (bayNumber n)) ≡ true)
+unfolding bayNamed candidate
+of-candidate bays n = go (named n)
+  where
+    go : (t : Bool) → candidate (cond t (bayAt bays (bayNumber n)) emptyBay) ≡ true → (t ≡ true) × (candidate (bayAt bays (bayNumber n)) ≡ true)
+    go true c = (refl, c)
+    go false c = absurd (false≢true c)
 
 abbrev pub NoCandidate : List Bay → Type 0
 NoCandidate bays = (b : ℕ) → b < 4 → candidate (bayAt bays b) ≡ false

@@ -73,4 +73,4 @@ pub timers-hold : TimersHold
 timers-hold = ByComputing.timers-hold
 
 pub worked-runs-hold : WorkedRunsHold
-worked-runs-hold = (ByComputing.listing-comes, ByComputing.status-comes, ByComputing.charger-comes, ByComputing.selector-comes)
+worked-runs-hold = (ByComputing.listing-comes, ByComputing.status-comes, ByComputing.charger-comes, ByComputing.selector-comes, ByComputing.four-bays-come)

@@ -21,6 +21,17 @@ programSetup =
       restart = 10500;
     }
 
+-- a board with all four bays, and the program's figures
+abbrev pub fourBaySetup : Setup
+fourBaySetup =
+    record {
+      supported = 15;
+      current = programSetup .current;
+      voltage = programSetup .voltage;
+      low = programSetup .low;
+      restart = programSetup .restart;
+    }
+
 -- a request that was not made
 abbrev pub noRequest : Request
 noRequest = record { word = 0; age = 0; mark = false }

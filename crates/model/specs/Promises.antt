@@ -3,10 +3,10 @@ use Prim.Native.Nat.{ℕ, _≤_, _<_}
 use mathlib.Core.Path.{_≡_}
 use mathlib.Core.Logic.{_↔_, _⊎_}
 use mathlib.Core.Bool.{Bool, true, false}
-use mathlib.Core.List.{List, _++_}
+use mathlib.Core.List.{List, [], _∷_, _++_}
 use Rattle.model.specs.declared.Setup.{Setup}
 use Rattle.model.specs.declared.Event.{Event}
-use Rattle.model.specs.declared.Event.the-variants.{Ac, Tick}
+use Rattle.model.specs.declared.Event.the-variants.{BayWord, Ac, Tick}
 use Rattle.model.specs.declared.Machine.{Machine}
 use Rattle.model.specs.declared.Answer.{Answer}
 use Rattle.model.specs.declared.Stepped.{Stepped}
@@ -15,7 +15,7 @@ use Rattle.model.specs.Numbers.{numberOf, done, refused, said}
 use Rattle.model.specs.Board.{noOutput}
 use Rattle.model.specs.Events.{Kind, currentWord, voltageWord, kindNumber, is}
 use Rattle.model.specs.Bays.{bayAt, candidate}
-use Rattle.model.specs.Machines.{programSetup, powerOn}
+use Rattle.model.specs.Machines.{programSetup, fourBaySetup, powerOn}
 use Rattle.model.specs.Settling.{settle}
 use Rattle.model.specs.Reads.{output}
 use Rattle.model.specs.Refusals.{goodSetup, badMachine}
@@ -24,7 +24,7 @@ use Rattle.model.specs.Facts.{some, ticks, ticksSince, Eight, requested,
 use Rattle.model.specs.Runs.{run, past, heardFrom}
 use Rattle.model.specs.Origin.{Counted}
 use Rattle.model.specs.Table.{charge, table, timers, allSeen, allValues}
-use Rattle.model.specs.Worked.{Row, rerun, listing, statusWords, chargerAtWork, selectorAtWork}
+use Rattle.model.specs.Worked.{Row, rerun, listing, statusWords, chargerAtWork, selectorAtWork, fourBaysAtWork}
 
 -- DEMAND 3, for every setup and every list of events from power-on, refused ones included
 
@@ -40,9 +40,9 @@ ExactlyEight = (s : Setup) (es : List Event) → (output (run s es) ≡ noOutput
 abbrev pub CutToTheLimits : Type 0
 CutToTheLimits = (s : Setup) (es : List Event) → Eight s (past s es) → output (run s es) ≡ requested s (past s es)
 
--- the eight can hold: they do of a run that charges 1500 mA
+-- the eight can hold: they do of a run that charges 1500 mA, after a word that asks 0 was refused
 abbrev pub FactsCanHold : Type 0
-FactsCanHold = Eight programSetup (past programSetup (charge 10000 1500))
+FactsCanHold = Eight programSetup (past programSetup (charge 10000 1500 ++ BayWord 1 0x14 0 ∷ []))
 
 -- every counted request came from the host, or from the pack now in the charging bay, after it was put in and connected
 abbrev pub CountedFrom : Type 0
@@ -126,9 +126,14 @@ abbrev pub TimersHold : Type 0
 TimersHold = allSeen timers ≡ allValues timers
 
 -- the worked rows are what comes of their events
-abbrev pub Comes : List Row → Type 0
-Comes rows = rerun (powerOn programSetup) rows ≡ rows
+abbrev pub Comes : Setup → List Row → Type 0
+Comes s rows = rerun (powerOn s) rows ≡ rows
 
--- the paper's listing, its status words, and the charger and the selector at work
+-- the paper's listing, its status words, the charger and the selector at work, and a board with four bays
 abbrev pub WorkedRunsHold : Type 0
-WorkedRunsHold = Comes listing × Comes statusWords × Comes chargerAtWork × Comes selectorAtWork
+WorkedRunsHold =
+    Comes programSetup listing
+    × Comes programSetup statusWords
+    × Comes programSetup chargerAtWork
+    × Comes programSetup selectorAtWork
+    × Comes fourBaySetup fourBaysAtWork

@@ -1,4 +1,4 @@
--- Worked runs of the program's setup from power-on: each event with its answer, and the output in mA and mV and the notice after it.
+-- Worked runs from power-on: each event with its answer, and the output in mA and mV and the notice after it.
 use Prim.Native.Nat.{ℕ}
 use mathlib.Core.Bool.{true, false}
 use mathlib.Core.List.{List, [], _∷_}
@@ -153,9 +153,15 @@ selectorAtWork =
     -- the power bay's pack is pulled
     ∷ row (Removal 0) done 0 0 1
     ∷ row (HostRead 0x14 0x01) (word 0x2202) 0 0 0
+    -- 9: insertion of a present bay; removal, ohms or terminal voltage of an absent one
+    ∷ row (Insertion 1) (refused 9) 0 0 0
+    ∷ row (Removal 0) (refused 9) 0 0 0
+    ∷ row (Signal 0 10000) (refused 9) 0 0 0
+    ∷ row (Terminal 0 12000) (refused 9) 0 0 0
+    -- USE_NEXT names two bays
+    ∷ row (HostWrite 0x14 0x02 0x0033) (refused 5) 0 0 0
     -- the order: 2 before 9, 3 before 4, 6 before 7, 7 before 8
     ∷ row (Removal 2) (refused 2) 0 0 0
-    ∷ row (Removal 0) (refused 9) 0 0 0
     ∷ row (BayWord 0 0x12 0) (refused 3) 0 0 0
     ∷ row (BayWord 0 0x14 1500) (refused 4) 0 0 0
     ∷ row (HostWrite 0x14 0x01 0x21FF) (refused 6) 0 0 0
@@ -165,4 +171,46 @@ selectorAtWork =
     ∷ row (HostRead 0x14 0x03) (refused 3) 0 0 0
     ∷ row (HostRead 0x12 0x11) (word 0x0002) 0 0 0
     ∷ row (HostRead 0x14 0x04) (word 0x0113) 0 0 0
+    ∷ []
+
+-- the bays C and D, on a board with four
+unfoldable pub fourBaysAtWork : List Row
+fourBaysAtWork =
+    -- D powers the system, C is next
+    row (Insertion 3) done 0 0 1
+    ∷ row (HostRead 0x14 0x01) (word 0x8808) 0 0 0
+    ∷ row (Insertion 2) done 0 0 1
+    ∷ row (HostRead 0x14 0x02) (word 0x004C) 0 0 1
+    ∷ row (HostWrite 0x14 0x02 0x004C) done 0 0 1
+    -- D falls low: C takes over, and D may be charged but not give power
+    ∷ row (Terminal 3 8999) done 0 0 1
+    ∷ row (HostRead 0x14 0x01) (word 0x440C) 0 0 0
+    ∷ row (HostWrite 0x14 0x01 0x88FF) (refused 7) 0 0 0
+    ∷ row (HostWrite 0x14 0x01 0xFF8F) done 0 0 0
+    ∷ row (BayWord 2 0x14 1500) (refused 4) 0 0 0
+    ∷ row (BayWord 3 0x14 1500) done 0 0 0
+    ∷ row (BayWord 3 0x15 16800) done 0 0 0
+    ∷ row (Signal 3 10000) done 0 0 0
+    -- POWER_BY is inverted in all four bits while D charges, whether it is 0 or C
+    ∷ row (Ac true) done 1500 16800 1
+    ∷ row (HostRead 0x14 0x01) (word 0x4F8C) 1500 16800 0
+    ∷ row (HostWrite 0x14 0x01 0x44FF) done 1500 16800 0
+    ∷ row (HostRead 0x14 0x01) (word 0x4B8C) 1500 16800 0
+    -- C is no longer OK: POWER_BY falls to 0, which is an automatic change too
+    ∷ row (HostWrite 0x14 0x02 0x0048) done 1500 16800 1
+    ∷ row (HostRead 0x14 0x02) (word 0x0008) 1500 16800 1
+    ∷ row (HostRead 0x14 0x01) (word 0x4F8C) 1500 16800 0
+    -- D is no longer OK: it is not charged, and can't be connected
+    ∷ row (HostWrite 0x14 0x02 0x0044) done 0 0 0
+    ∷ row (HostWrite 0x14 0x01 0xFF8F) (refused 7) 0 0 0
+    -- all four bays are in; then C, with which SMB spoke, is pulled
+    ∷ row (Insertion 0) done 0 0 1
+    ∷ row (Insertion 1) done 0 0 1
+    ∷ row (HostRead 0x14 0x01) (word 0x400F) 0 0 0
+    ∷ row (HostRead 0x14 0x02) (word 0x0047) 0 0 0
+    ∷ row (Removal 2) done 0 0 1
+    ∷ row (HostRead 0x14 0x01) (word 0x000B) 0 0 0
+    -- the wanted bay is empty: the first by letter is taken
+    ∷ row (Ac false) done 0 0 1
+    ∷ row (HostRead 0x14 0x01) (word 0x110B) 0 0 0
     ∷ []
