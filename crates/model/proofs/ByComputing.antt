@@ -5,8 +5,9 @@ use Rattle.model.specs.Facts.{hear, accepted, latest, since, some, ticks
 use Rattle.model.specs.Machines.{programSetup, fourBaySetup}
 use Rattle.model.specs.Runs.{saidFrom, history}
 use Rattle.model.specs.Table.{seen, table, timers, allSeen, allValues}
+use Rattle.model.specs.Handed.{goodOnes, badOnes, allBad, everyOne}
 use Rattle.model.specs.Worked.{rowOf, rerun, listing, statusWords, chargerAtWork, selectorAtWork, fourBaysAtWork}
-use Rattle.model.specs.Promises.{FactsCanHold, TableHolds, TimersHold, Comes}
+use Rattle.model.specs.Promises.{FactsCanHold, TableHolds, TimersHold, EdgesHold, Comes}
 use Rattle.model.proofs.Computes.{computes}
 
 pub table-holds : TableHolds
@@ -16,6 +17,10 @@ table-holds = refl
 pub timers-hold : TimersHold
 unfolding computes seen timers allSeen allValues
 timers-hold = refl
+
+pub edges-hold : EdgesHold
+unfolding computes goodOnes badOnes allBad everyOne
+edges-hold = (refl, refl)
 
 pub listing-comes : Comes programSetup listing
 unfolding computes rowOf rerun listing

@@ -1,5 +1,5 @@
 -- Every promise of `specs/Promises.antt`, proved: a line each, with the file that has the argument.
-use Rattle.model.specs.Promises.{OutputIsTold, ExactlyEight, CutToTheLimits, FactsCanHold, CountedFrom, RunsOut, RunsOutWhateverComes, RefusalChangesNothing, PowerOnIsGood, AlwaysGood, Never15, TicksAndAcHeard, RefusalsApart, AnswersApart, StepsApart, KindsApart, SupplyKept, AllSettled, TableHolds, TimersHold, WorkedRunsHold}
+use Rattle.model.specs.Promises.{OutputIsTold, ExactlyEight, CutToTheLimits, FactsCanHold, CountedFrom, RunsOut, RunsOutWhateverComes, RefusalChangesNothing, PowerOnIsGood, AlwaysGood, Never15, TicksAndAcHeard, RefusalsApart, AnswersApart, StepsApart, KindsApart, SupplyKept, AllSettled, TableHolds, TimersHold, EdgesHold, WorkedRunsHold}
 use Rattle.model.proofs.Demand3
 use Rattle.model.proofs.Exactly
 use Rattle.model.proofs.Origin
@@ -71,6 +71,9 @@ table-holds = ByComputing.table-holds
 
 pub timers-hold : TimersHold
 timers-hold = ByComputing.timers-hold
+
+pub edges-hold : EdgesHold
+edges-hold = ByComputing.edges-hold
 
 pub worked-runs-hold : WorkedRunsHold
 worked-runs-hold = (ByComputing.listing-comes, ByComputing.status-comes, ByComputing.charger-comes, ByComputing.selector-comes, ByComputing.four-bays-come)

@@ -17,4 +17,5 @@ pub mod Runs
 pub mod Origin
 pub mod Table
 pub mod Worked
+pub mod Handed
 pub mod Promises

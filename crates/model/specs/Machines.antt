@@ -1,8 +1,11 @@
 -- Whole machines: at power-on, after an accepted event, and with one part anew. No other file writes a machine or a setup out field by field.
+use Prim.Native.Nat.{ℕ}
 use mathlib.Core.Bool.{Bool, false}
-use mathlib.Core.List.{[], _∷_}
+use mathlib.Core.List.{List, [], _∷_}
 use Rattle.model.specs.declared.Setup.{Setup}
+use Rattle.model.specs.declared.Bay.{Bay}
 use Rattle.model.specs.declared.Request.{Request}
+use Rattle.model.specs.declared.Charger.{Charger}
 use Rattle.model.specs.declared.Selector.{Selector}
 use Rattle.model.specs.declared.Machine.{Machine}
 use Rattle.model.specs.declared.Event.{Event}
@@ -10,27 +13,24 @@ use Rattle.model.specs.Bays.{emptyBay, baysAfter}
 use Rattle.model.specs.SelectorRules.{acAfter, smbAfter, powerAfter, chargeAfter, nextAfter, noticeAfter}
 use Rattle.model.specs.ChargerRules.{fresh, chargerAfter}
 
--- the program's setup: bays 3, current 3000/2000, voltage 18000/16800 (largest/safe), 9000, 10500
-abbrev pub programSetup : Setup
-programSetup =
+-- a setup: supported bays; current and voltage, each largest and safe; low and restart level
+abbrev pub setupOf : ℕ → ℕ → ℕ → ℕ → ℕ → ℕ → ℕ → Setup
+setupOf supported mostMilliamps safeMilliamps mostMillivolts safeMillivolts low restart =
     record {
-      supported = 3;
-      current = record { largest = 3000; safe = 2000 };
-      voltage = record { largest = 18000; safe = 16800 };
-      low = 9000;
-      restart = 10500;
+      supported = supported;
+      current = record { largest = mostMilliamps; safe = safeMilliamps };
+      voltage = record { largest = mostMillivolts; safe = safeMillivolts };
+      low = low;
+      restart = restart;
     }
 
--- a board with all four bays, and the program's figures
+-- the program's setup: bays 3, current 3000/2000, voltage 18000/16800 (largest/safe), 9000, 10500
+abbrev pub programSetup : Setup
+programSetup = setupOf 3 3000 2000 18000 16800 9000 10500
+
+-- the same board with all four bays
 abbrev pub fourBaySetup : Setup
-fourBaySetup =
-    record {
-      supported = 15;
-      current = programSetup .current;
-      voltage = programSetup .voltage;
-      low = programSetup .low;
-      restart = programSetup .restart;
-    }
+fourBaySetup = setupOf 15 3000 2000 18000 16800 9000 10500
 
 -- a request that was not made
 abbrev pub noRequest : Request
@@ -59,6 +59,14 @@ act m e =
       ac = acAfter m e;
       notice = noticeAfter m e;
     }
+
+-- the machine with its bays anew
+abbrev pub withBays : Machine → List Bay → Machine
+withBays m x = record { setup = m .setup; bays = x; charger = m .charger; selector = m .selector; ac = m .ac; notice = m .notice }
+
+-- the machine with its charger anew
+abbrev pub withCharger : Machine → Charger → Machine
+withCharger m x = record { setup = m .setup; bays = m .bays; charger = x; selector = m .selector; ac = m .ac; notice = m .notice }
 
 -- the machine with its selector anew
 abbrev pub withSelector : Machine → Selector → Machine

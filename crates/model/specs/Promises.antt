@@ -24,6 +24,7 @@ use Rattle.model.specs.Facts.{some, ticks, ticksSince, Eight, requested,
 use Rattle.model.specs.Runs.{run, past, heardFrom}
 use Rattle.model.specs.Origin.{Counted}
 use Rattle.model.specs.Table.{charge, table, timers, allSeen, allValues}
+use Rattle.model.specs.Handed.{goodOnes, badOnes, allBad, everyOne}
 use Rattle.model.specs.Worked.{Row, rerun, listing, statusWords, chargerAtWork, selectorAtWork, fourBaysAtWork}
 
 -- DEMAND 3, for every setup and every list of events from power-on, refused ones included
@@ -124,6 +125,10 @@ TableHolds = allSeen table ≡ allValues table
 -- each request's own timer
 abbrev pub TimersHold : Type 0
 TimersHold = allSeen timers ≡ allValues timers
+
+-- 15, and 1 for the setups, up to each edge and past it
+abbrev pub EdgesHold : Type 0
+EdgesHold = (allBad goodOnes ≡ everyOne false goodOnes) × (allBad badOnes ≡ everyOne true badOnes)
 
 -- the worked rows are what comes of their events
 abbrev pub Comes : Setup → List Row → Type 0
