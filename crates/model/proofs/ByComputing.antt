@@ -6,7 +6,7 @@ use Rattle.model.specs.Machines.{programSetup, fourBaySetup}
 use Rattle.model.specs.Runs.{saidFrom, history}
 use Rattle.model.specs.Table.{seen, table, timers, allSeen, allValues}
 use Rattle.model.specs.Handed.{goodOnes, badOnes, allBad, everyOne}
-use Rattle.model.specs.Worked.{rowOf, rerun, listing, statusWords, chargerAtWork, selectorAtWork, fourBaysAtWork}
+use Rattle.model.specs.Worked.{rowOf, rerun, listing, statusWords, signalAtWork, chargerAtWork, selectorAtWork, fourBaysAtWork}
 use Rattle.model.specs.Promises.{FactsCanHold, TableHolds, TimersHold, EdgesHold, Comes}
 use Rattle.model.proofs.Computes.{computes}
 
@@ -29,6 +29,10 @@ listing-comes = refl
 pub status-comes : Comes programSetup statusWords
 unfolding computes rowOf rerun statusWords
 status-comes = refl
+
+pub signal-comes : Comes programSetup signalAtWork
+unfolding computes rowOf rerun signalAtWork
+signal-comes = refl
 
 pub charger-comes : Comes programSetup chargerAtWork
 unfolding computes rowOf rerun chargerAtWork

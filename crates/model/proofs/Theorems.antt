@@ -76,4 +76,4 @@ pub edges-hold : EdgesHold
 edges-hold = ByComputing.edges-hold
 
 pub worked-runs-hold : WorkedRunsHold
-worked-runs-hold = (ByComputing.listing-comes, ByComputing.status-comes, ByComputing.charger-comes, ByComputing.selector-comes, ByComputing.four-bays-come)
+worked-runs-hold = (ByComputing.listing-comes, ByComputing.status-comes, ByComputing.signal-comes, ByComputing.charger-comes, ByComputing.selector-comes, ByComputing.four-bays-come)

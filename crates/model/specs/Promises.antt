@@ -25,7 +25,7 @@ use Rattle.model.specs.Runs.{run, past, heardFrom}
 use Rattle.model.specs.Origin.{Counted}
 use Rattle.model.specs.Table.{charge, table, timers, allSeen, allValues}
 use Rattle.model.specs.Handed.{goodOnes, badOnes, allBad, everyOne}
-use Rattle.model.specs.Worked.{Row, rerun, listing, statusWords, chargerAtWork, selectorAtWork, fourBaysAtWork}
+use Rattle.model.specs.Worked.{Row, rerun, listing, statusWords, signalAtWork, chargerAtWork, selectorAtWork, fourBaysAtWork}
 
 -- DEMAND 3, for every setup and every list of events from power-on, refused ones included
 
@@ -134,11 +134,12 @@ EdgesHold = (allBad goodOnes ≡ everyOne false goodOnes) × (allBad badOnes ≡
 abbrev pub Comes : Setup → List Row → Type 0
 Comes s rows = rerun (powerOn s) rows ≡ rows
 
--- the paper's listing, its status words, the charger and the selector at work, and a board with four bays
+-- the paper's listing, its status words, the safety signal's edges, the charger and the selector at work, and a board with four bays
 abbrev pub WorkedRunsHold : Type 0
 WorkedRunsHold =
     Comes programSetup listing
     × Comes programSetup statusWords
+    × Comes programSetup signalAtWork
     × Comes programSetup chargerAtWork
     × Comes programSetup selectorAtWork
     × Comes fourBaySetup fourBaysAtWork

@@ -61,6 +61,41 @@ statusWords =
     ∷ row (HostRead 0x12 0x13) (word 0xD010) 0 0 1
     ∷ []
 
+-- a pack that asks, over the edges of its safety signal: the output, and the status bits OR, COLD, HOT and UR
+unfoldable pub signalAtWork : List Row
+signalAtWork =
+    row (Ac true) done 0 0 1
+    ∷ row (Insertion 0) done 0 0 1
+    ∷ row (HostWrite 0x14 0x01 0xFF1F) done 0 0 1
+    ∷ row (BayWord 0 0x14 1500) done 0 0 1
+    ∷ row (BayWord 0 0x15 16800) done 0 0 1
+    -- unread counts as over range
+    ∷ row (HostRead 0x12 0x13) (word 0xC310) 0 0 1
+    -- HOT and UR
+    ∷ row (Signal 0 0) done 0 0 1
+    ∷ row (HostRead 0x12 0x13) (word 0xCC10) 0 0 1
+    ∷ row (Signal 0 499) done 0 0 1
+    ∷ row (HostRead 0x12 0x13) (word 0xCC10) 0 0 1
+    -- HOT
+    ∷ row (Signal 0 500) done 0 0 1
+    ∷ row (HostRead 0x12 0x13) (word 0xC410) 0 0 1
+    ∷ row (Signal 0 2999) done 0 0 1
+    ∷ row (HostRead 0x12 0x13) (word 0xC410) 0 0 1
+    -- plain
+    ∷ row (Signal 0 3000) done 1500 16800 1
+    ∷ row (HostRead 0x12 0x13) (word 0xC010) 1500 16800 1
+    ∷ row (Signal 0 30000) done 1500 16800 1
+    ∷ row (HostRead 0x12 0x13) (word 0xC010) 1500 16800 1
+    -- COLD
+    ∷ row (Signal 0 30001) done 1500 16800 1
+    ∷ row (HostRead 0x12 0x13) (word 0xC210) 1500 16800 1
+    ∷ row (Signal 0 100000) done 1500 16800 1
+    ∷ row (HostRead 0x12 0x13) (word 0xC210) 1500 16800 1
+    -- OR and COLD
+    ∷ row (Signal 0 100001) done 0 0 1
+    ∷ row (HostRead 0x12 0x13) (word 0xC310) 0 0 1
+    ∷ []
+
 -- the charger at work on two packs
 unfoldable pub chargerAtWork : List Row
 chargerAtWork =
@@ -79,8 +114,13 @@ chargerAtWork =
     -- 65535 gives the safe value, and counts as above the largest
     ∷ row (HostWrite 0x12 0x14 65535) done 2000 18000 1
     ∷ row (HostRead 0x12 0x13) (word 0xC2D0) 2000 18000 1
+    ∷ row (HostWrite 0x12 0x15 65535) done 2000 16800 1
+    -- each status bit compares its own request with its own largest
+    ∷ row (HostWrite 0x12 0x14 3001) done 3000 16800 1
+    ∷ row (HostWrite 0x12 0x15 16800) done 3000 16800 1
+    ∷ row (HostRead 0x12 0x13) (word 0xC250) 3000 16800 1
     -- naming the connected bay again leaves its pack connected from before
-    ∷ row (HostWrite 0x14 0x01 0xFF2F) done 2000 18000 1
+    ∷ row (HostWrite 0x14 0x01 0xFF2F) done 3000 16800 1
     -- an alarm: both words rewritten, zeros too, lift the hold
     ∷ row (BayWord 1 0x16 0x1000) done 0 0 1
     ∷ row (BayWord 1 0x14 0) done 0 0 1
@@ -89,11 +129,12 @@ chargerAtWork =
     -- an AlarmWarning with none of the bits lifts it too
     ∷ row (BayWord 1 0x16 0x8000) done 0 0 1
     ∷ row (BayWord 1 0x16 0x0FFF) done 1500 16800 1
-    -- bit 3 of ChargerMode zeroes both requests; bit 0 inhibits until a word with bit 0 clear or POR_RESET
-    ∷ row (HostWrite 0x12 0x12 0x0008) done 0 0 1
+    -- bit 3 of ChargerMode zeroes both requests, whatever other bits are set; bit 0 inhibits until a word with bit 0 clear or POR_RESET
+    ∷ row (HostWrite 0x12 0x12 0xFFFA) done 0 0 1
     ∷ row (BayWord 1 0x14 1500) done 0 0 1
     ∷ row (BayWord 1 0x15 16800) done 1500 16800 1
     ∷ row (HostWrite 0x12 0x12 0x0001) done 0 0 1
+    ∷ row (HostRead 0x12 0x13) (word 0xC211) 0 0 1
     ∷ row (HostWrite 0x12 0x12 0x0000) done 1500 16800 1
     ∷ row (HostWrite 0x12 0x12 0x000D) done 0 0 1
     ∷ row (HostRead 0x12 0x13) (word 0xC210) 0 0 1
@@ -118,16 +159,26 @@ chargerAtWork =
 -- the selector at work on two packs
 unfoldable pub selectorAtWork : List Row
 selectorAtWork =
+    -- AC comes and goes with no pack in: each change sets the notice, a repeated event does nothing
+    row (Ac true) done 0 0 1
+    ∷ row (HostRead 0x14 0x01) (word 0x0000) 0 0 0
+    ∷ row (Ac true) done 0 0 0
+    ∷ row (Ac false) done 0 0 1
+    ∷ row (HostRead 0x14 0x01) (word 0x0000) 0 0 0
+    ∷ row (Ac false) done 0 0 0
     -- the first pack powers the system, and SMB follows
-    row (Insertion 0) done 0 0 1
+    ∷ row (Insertion 0) done 0 0 1
     ∷ row (HostRead 0x14 0x01) (word 0x1101) 0 0 0
     -- there is nothing to use next until a second pack is in
     ∷ row (HostRead 0x14 0x02) (word 0x0001) 0 0 0
     ∷ row (Insertion 1) done 0 0 1
     ∷ row (HostRead 0x14 0x02) (word 0x0023) 0 0 1
-    -- AC arriving takes the load; AC going leaves power and charge on one bay
+    -- AC arriving takes the load; POWER_BY and CHARGE may both be 0, but not on one bay
     ∷ row (Ac true) done 0 0 1
+    ∷ row (HostWrite 0x14 0x01 0xF00F) done 0 0 1
     ∷ row (HostWrite 0x14 0x01 0xFF1F) done 0 0 1
+    ∷ row (HostWrite 0x14 0x01 0x11FF) (refused 8) 0 0 1
+    -- AC going leaves them on one
     ∷ row (Ac false) done 0 0 1
     ∷ row (HostRead 0x14 0x01) (word 0x1113) 0 0 0
     -- an SMB-only word is accepted all the same; CHARGE on that bay again is not
@@ -139,11 +190,17 @@ selectorAtWork =
     -- no bay OK: CHARGE and POWER_BY fall to 0, SMB stays with its pack
     ∷ row (HostWrite 0x14 0x02 0x0020) done 0 0 1
     ∷ row (HostRead 0x14 0x01) (word 0x1003) 0 0 0
+    -- a bay that is not OK is present all the same: SMB may go there, and its terminal voltage does not make it OK
+    ∷ row (HostWrite 0x14 0x01 0x2FFF) done 0 0 0
+    ∷ row (Insertion 1) (refused 9) 0 0 0
+    ∷ row (Terminal 1 12000) done 0 0 0
+    ∷ row (HostRead 0x14 0x02) (word 0x0000) 0 0 0
     -- 0xF in OK_TO_USE is no mask: both bays are OK again, and the wanted bay is taken
     ∷ row (HostWrite 0x14 0x02 0x002F) done 0 0 1
     ∷ row (HostRead 0x14 0x01) (word 0x2203) 0 0 0
     ∷ row (HostRead 0x14 0x02) (word 0x0013) 0 0 0
     -- below low the bay is left; between low and restart nothing changes; at restart it may follow again
+    ∷ row (Terminal 1 9000) done 0 0 0
     ∷ row (Terminal 1 8999) done 0 0 1
     ∷ row (HostRead 0x14 0x01) (word 0x1103) 0 0 0
     ∷ row (Terminal 1 10499) done 0 0 0
@@ -176,12 +233,15 @@ selectorAtWork =
 -- the bays C and D, on a board with four
 unfoldable pub fourBaysAtWork : List Row
 fourBaysAtWork =
-    -- D powers the system, C is next
-    row (Insertion 3) done 0 0 1
-    ∷ row (HostRead 0x14 0x01) (word 0x8808) 0 0 0
-    ∷ row (Insertion 2) done 0 0 1
-    ∷ row (HostRead 0x14 0x02) (word 0x004C) 0 0 1
-    ∷ row (HostWrite 0x14 0x02 0x004C) done 0 0 1
+    -- C powers the system and D is next; the host turns them round
+    row (Insertion 2) done 0 0 1
+    ∷ row (HostRead 0x14 0x01) (word 0x4404) 0 0 0
+    ∷ row (Insertion 3) done 0 0 1
+    ∷ row (HostRead 0x14 0x02) (word 0x008C) 0 0 1
+    ∷ row (HostWrite 0x14 0x01 0x88FF) done 0 0 1
+    ∷ row (HostRead 0x14 0x01) (word 0x880C) 0 0 0
+    ∷ row (HostRead 0x14 0x02) (word 0x004C) 0 0 0
+    ∷ row (HostWrite 0x14 0x02 0x004C) done 0 0 0
     -- D falls low: C takes over, and D may be charged but not give power
     ∷ row (Terminal 3 8999) done 0 0 1
     ∷ row (HostRead 0x14 0x01) (word 0x440C) 0 0 0
@@ -213,4 +273,11 @@ fourBaysAtWork =
     -- the wanted bay is empty: the first by letter is taken
     ∷ row (Ac false) done 0 0 1
     ∷ row (HostRead 0x14 0x01) (word 0x110B) 0 0 0
+    -- A and then B are pulled: only D is left, no longer low
+    ∷ row (HostWrite 0x14 0x02 0x004F) done 0 0 0
+    ∷ row (Terminal 3 10500) done 0 0 0
+    ∷ row (Removal 0) done 0 0 1
+    ∷ row (HostRead 0x14 0x01) (word 0x220A) 0 0 0
+    ∷ row (Removal 1) done 0 0 1
+    ∷ row (HostRead 0x14 0x01) (word 0x8808) 0 0 0
     ∷ []
