@@ -72,6 +72,10 @@ withCharger m x = record { setup = m .setup; bays = m .bays; charger = x; select
 abbrev pub withSelector : Machine → Selector → Machine
 withSelector m x = record { setup = m .setup; bays = m .bays; charger = m .charger; selector = x; ac = m .ac; notice = m .notice }
 
+-- the machine with AC anew
+abbrev pub withAc : Machine → Bool → Machine
+withAc m x = record { setup = m .setup; bays = m .bays; charger = m .charger; selector = m .selector; ac = x; notice = m .notice }
+
 -- the machine with its notice anew
 abbrev pub withNotice : Machine → Bool → Machine
 withNotice m x = record { setup = m .setup; bays = m .bays; charger = m .charger; selector = m .selector; ac = m .ac; notice = x }
