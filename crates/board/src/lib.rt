@@ -1,0 +1,69 @@
+// The analogue board's two rules: how a request is limited, and what a reading of the safety signal means.
+use model::Class;
+use model::Limit;
+use model::Reading;
+ghost use mathlib.Core.Path.{_≡_};
+ghost use Prim.Native.Nat.{_≤_};
+ghost use Rattle.model.specs.Board.{limited, classOf, classRead, allowed, classBits};
+
+// The limit rule: 65535 gives the safe value, any other request is cut at the largest.
+pub fn limit(l: Limit, request: u16) -> u16
+    ensures { λ r. ⌜ r ≡ limited l request ⌝ }
+{
+    if request == 65535 {
+        l.safe
+    } else if request <= l.largest {
+        request
+    } else {
+        l.largest
+    }
+}
+
+// The class of a reading, by its range.
+pub fn class_of(ohms: u32) -> Class
+    ensures { λ r. ⌜ r ≡ classOf ohms ⌝ }
+{
+    match ohms {
+        0..=499 => Class::Under,
+        500..=2999 => Class::Hot,
+        3000..=30000 => Class::Plain,
+        30001..=100000 => Class::Cold,
+        _ => Class::Over,
+    }
+}
+
+// The class of a signal that may be unread.
+pub fn class_read(reading: Reading) -> Class
+    ensures { λ r. ⌜ r ≡ classRead reading ⌝ }
+{
+    match reading {
+        Reading::Unread => Class::Over,
+        Reading::Ohms(ohms) => class_of(ohms),
+    }
+}
+
+// Whether a class allows charging.
+pub fn is_allowed(class: Class) -> bool
+    ensures { λ r. ⌜ r ≡ allowed class ⌝ }
+{
+    match class {
+        Class::Under => false,
+        Class::Hot => false,
+        Class::Plain => true,
+        Class::Cold => true,
+        Class::Over => false,
+    }
+}
+
+// The status bits 8 to 11 of a class.
+pub fn class_bits(class: Class) -> u16
+    ensures { λ r. ⌜ (r ≡ classBits class) × (r ≤ 0x0F00) ⌝ }
+{
+    match class {
+        Class::Under => 0x0C00,
+        Class::Hot => 0x0400,
+        Class::Plain => 0,
+        Class::Cold => 0x0200,
+        Class::Over => 0x0300,
+    }
+}
