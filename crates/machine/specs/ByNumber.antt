@@ -1,0 +1,16 @@
+-- Bays by a number that may be past the four: an empty bay, and a machine as it stands.
+use Prim.Native.Nat.{ℕ}
+use mathlib.Core.List.{List}
+use lib.Dec.{ltb}
+use Rattle.model.specs.declared.Bay.{Bay}
+use Rattle.model.specs.declared.Machine.{Machine}
+use Rattle.model.specs.If.{if_then_else_}
+use Rattle.model.specs.Bays.{emptyBay, bayAt}
+
+-- bay number b; an empty one past the four
+unfoldable pub bayIn : List Bay → ℕ → Bay
+bayIn bays b = if ltb b 4 then bayAt bays b else emptyBay
+
+-- the next machine if there is a bay b, else the machine as it stands
+unfoldable pub ifBay : ℕ → Machine → Machine → Machine
+ifBay b next m = if ltb b 4 then next else m

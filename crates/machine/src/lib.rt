@@ -1,0 +1,171 @@
+// Which setups and machines are refused, the bays of a machine, and a machine with one part anew.
+use model::Bay;
+use model::Charger;
+use model::Limit;
+use model::Machine;
+use model::Reading;
+use model::Setup;
+ghost use mathlib.Core.Path.{_≡_};
+ghost use lib.ListN.{set};
+ghost use Rattle.model.specs.Bays.{emptyBay, bayNamed};
+ghost use Rattle.model.specs.Machines.{withBays, withCharger, withNotice};
+ghost use Rattle.model.specs.Refusals.{supports, oneBay, goodLimit, goodSetup, wasRead, strayBay, strayBays, strayNibble, overAge, badMachine};
+ghost use Rattle.machine.specs.ByNumber.{bayIn, ifBay};
+
+fn is_good_limit(l: Limit) -> bool
+    ensures { λ r. ⌜ r ≡ goodLimit l ⌝ }
+{
+    (1 <= l.safe) & (l.safe <= l.largest) & (l.largest <= 65534)
+}
+
+// Whether a setup is in its ranges: refusal 1 where it is not.
+pub fn is_good_setup(s: Setup) -> bool
+    ensures { λ r. ⌜ r ≡ goodSetup s ⌝ }
+{
+    let n = s.supported;
+    ((n == 1) | (n == 3) | (n == 7) | (n == 15))
+        & is_good_limit(s.current)
+        & is_good_limit(s.voltage)
+        & ((0 < s.low) & (s.low < s.restart) & (s.restart <= 65535))
+}
+
+// Whether a bay is one of the four, and supported.
+pub fn is_supported(s: Setup, b: u8) -> bool
+    ensures { λ r. ⌜ r ≡ supports s b ⌝ }
+{
+    (b < 4) & words::bit(s.supported, b as u16)
+}
+
+// Whether a nibble is 0 or one supported bay.
+pub fn is_one_bay(s: Setup, n: u16) -> bool
+    ensures { λ r. ⌜ r ≡ oneBay s n ⌝ }
+{
+    (n == 0) | words::is_among(s.supported, n)
+}
+
+fn was_read(reading: Reading) -> bool
+    ensures { λ r. ⌜ r ≡ wasRead reading ⌝ }
+{
+    match reading {
+        Reading::Unread => false,
+        Reading::Ohms(_) => true,
+    }
+}
+
+// Whether a bay is present and not supported, or absent with something left of a pack.
+fn is_stray_bay(s: Setup, b: u8, bay: Bay) -> bool
+    ensures { λ r. ⌜ r ≡ strayBay s b bay ⌝ }
+{
+    let reading = bay.reading;
+    (bay.present & !is_supported(s, b)) | (!bay.present & (bay.ok | bay.low | was_read(reading)))
+}
+
+fn are_stray_bays(s: Setup, bays: [Bay; 4]) -> bool
+    ensures { λ r. ⌜ r ≡ strayBays s bays ⌝ }
+{
+    is_stray_bay(s, 0, bays[0])
+        | is_stray_bay(s, 1, bays[1])
+        | is_stray_bay(s, 2, bays[2])
+        | is_stray_bay(s, 3, bays[3])
+}
+
+// Whether a nibble of the selector is neither 0 nor one supported bay.
+fn has_stray_nibble(m: Machine) -> bool
+    ensures { λ r. ⌜ r ≡ strayNibble m ⌝ }
+{
+    let s = m.setup;
+    !is_one_bay(s, m.selector.smb)
+        | !is_one_bay(s, m.selector.power)
+        | !is_one_bay(s, m.selector.charge)
+        | !is_one_bay(s, m.selector.next)
+}
+
+fn is_over_age(m: Machine) -> bool
+    ensures { λ r. ⌜ r ≡ overAge m ⌝ }
+{
+    (175 < m.charger.current.age) | (175 < m.charger.voltage.age)
+}
+
+// Whether a machine that is handed in is none: refusal 15.
+pub fn is_bad(m: Machine) -> bool
+    ensures { λ r. ⌜ r ≡ badMachine m ⌝ }
+{
+    let bays = m.bays;
+    !is_good_setup(m.setup) | has_stray_nibble(m) | is_over_age(m) | are_stray_bays(m.setup, bays)
+}
+
+// A bay that holds no pack.
+pub fn empty_bay() -> Bay
+    ensures { λ r. ⌜ r ≡ emptyBay ⌝ }
+{
+    Bay {
+        present: false,
+        ok: false,
+        low: false,
+        reading: Reading::Unread,
+    }
+}
+
+// A bay by its number, an empty one where there is none.
+pub fn bay_at(bays: [Bay; 4], b: u8) -> Bay
+    ensures { λ r. ⌜ r ≡ bayIn bays b ⌝ }
+{
+    if b < 4 {
+        let i = b as usize;
+        bays[i]
+    } else {
+        empty_bay()
+    }
+}
+
+// The bay that a nibble names, an empty one where it names none.
+pub fn named_bay(bays: [Bay; 4], n: u16) -> Bay
+    ensures { λ r. ⌜ r ≡ bayNamed bays n ⌝ }
+{
+    if words::is_named(n) {
+        bay_at(bays, words::bay_number(n))
+    } else {
+        empty_bay()
+    }
+}
+
+// The machine with another bay at number b, itself where there is none.
+pub fn with_bay(m: Machine, b: u8, bay: Bay) -> Machine
+    ensures { λ r. ⌜ r ≡ ifBay b (withBays m (set (m .bays) b bay)) m ⌝ }
+{
+    if b < 4 {
+        let i = b as usize;
+        let mut n = m;
+        n.bays[i] = bay;
+        n
+    } else {
+        m
+    }
+}
+
+// The machine with its bays anew.
+pub fn with_bays(m: Machine, bays: [Bay; 4]) -> Machine
+    ensures { λ r. ⌜ r ≡ withBays m bays ⌝ }
+{
+    let mut n = m;
+    n.bays = bays;
+    n
+}
+
+// The machine with its charger anew.
+pub fn with_charger(m: Machine, charger: Charger) -> Machine
+    ensures { λ r. ⌜ r ≡ withCharger m charger ⌝ }
+{
+    let mut n = m;
+    n.charger = charger;
+    n
+}
+
+// The machine with its notice anew.
+pub fn with_notice(m: Machine, notice: bool) -> Machine
+    ensures { λ r. ⌜ r ≡ withNotice m notice ⌝ }
+{
+    let mut n = m;
+    n.notice = notice;
+    n
+}
