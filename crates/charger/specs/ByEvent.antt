@@ -1,0 +1,57 @@
+-- What each word, a tick and a fresh start do to the charger: the model's rules read by event, as proofs/ByEvent.antt shows.
+use Prim.Native.Nat.{ℕ}
+use mathlib.Core.Bool.{Bool, true, false}
+use lib.Dec.{eqb}
+use Rattle.model.specs.declared.Request.{Request}
+use Rattle.model.specs.declared.Charger.{Charger}
+use Rattle.model.specs.If.{if_then_else_}
+use Rattle.model.specs.Words.{bit, alarming}
+use Rattle.model.specs.ChargerRules.{older}
+use Rattle.model.specs.Machines.{noRequest}
+
+-- a fresh start: no request, no hold, and that inhibit state
+abbrev pub freshened : Bool → Charger
+freshened inhibit = record { current = noRequest; voltage = noRequest; hold = false; inhibit = inhibit }
+
+-- after an event that is a fresh start or is none; the inhibit state stays
+unfoldable pub freshIf : Bool → Charger → Charger
+freshIf start c = if start then freshened (c .inhibit) else c
+
+-- 0x14, 0x15: a request that was just written
+abbrev pub asked : ℕ → Request
+asked w = record { word = w; age = 0; mark = true }
+
+-- 0x14: the hold is lifted if the voltage was rewritten too
+unfoldable pub currentSet : Charger → ℕ → Charger
+currentSet c w = record { current = asked w; voltage = c .voltage; hold = if c .voltage .mark then false else c .hold; inhibit = c .inhibit }
+
+-- 0x15: the hold is lifted if the current was rewritten too
+unfoldable pub voltageSet : Charger → ℕ → Charger
+voltageSet c w = record { current = c .current; voltage = asked w; hold = if c .current .mark then false else c .hold; inhibit = c .inhibit }
+
+-- 0x16: an alarm clears a rewrite mark
+abbrev pub remarked : Bool → Request → Request
+remarked alarm r = record { word = r .word; age = r .age; mark = if alarm then false else r .mark }
+
+-- 0x16: and puts on the hold, which a word that is no alarm lifts
+unfoldable pub alarmSet : Charger → ℕ → Charger
+alarmSet c w =
+    record { current = remarked (alarming w) (c .current); voltage = remarked (alarming w) (c .voltage); hold = alarming w; inhibit = c .inhibit }
+
+-- a tick, to one request
+unfoldable pub aged : Request → Request
+aged r = record { word = if eqb (older (r .age)) 175 then 0 else r .word; age = older (r .age); mark = r .mark }
+
+-- a tick
+unfoldable pub ticked : Charger → Charger
+ticked c = record { current = aged (c .current); voltage = aged (c .voltage); hold = c .hold; inhibit = c .inhibit }
+
+-- 0x12: bit 3 sets a request to 0
+abbrev pub zeroed : Bool → Request → Request
+zeroed on r = record { word = if on then 0 else r .word; age = r .age; mark = r .mark }
+
+-- 0x12: POR_RESET first
+unfoldable pub modeSet : Charger → ℕ → Charger
+modeSet c w =
+    if bit 2 w then freshened false
+    else record { current = zeroed (bit 3 w) (c .current); voltage = zeroed (bit 3 w) (c .voltage); hold = c .hold; inhibit = bit 0 w }

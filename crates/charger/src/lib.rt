@@ -1,0 +1,241 @@
+// The charger's words, a tick, a fresh start, the output and the status word.
+use model::Bay;
+use model::Charger;
+use model::Limit;
+use model::Machine;
+use model::Output;
+use model::Request;
+ghost use mathlib.Core.Path.{_≡_};
+ghost use Prim.Native.Nat.{_≤_};
+ghost use Rattle.model.specs.declared.Event.the-variants as event;
+ghost use Rattle.model.specs.ChargerRules as rules;
+ghost use Rattle.model.specs.Machines.{noRequest, act};
+ghost use Rattle.model.specs.Reads.{charging, output, aboveLargest, signalBits, statusWord};
+ghost use Rattle.charger.specs.ByEvent.{freshened, freshIf, asked, currentSet, voltageSet, remarked, alarmSet, aged, ticked, zeroed, modeSet};
+
+fn no_request() -> Request
+    ensures { λ r. ⌜ r ≡ noRequest ⌝ }
+{
+    Request {
+        word: 0,
+        age: 0,
+        mark: false,
+    }
+}
+
+// A charger afresh: no request, no hold.
+fn fresh(inhibit: bool) -> Charger
+    ensures { λ r. ⌜ r ≡ freshened inhibit ⌝ }
+{
+    let none = no_request();
+    Charger {
+        current: none,
+        voltage: none,
+        hold: false,
+        inhibit: inhibit,
+    }
+}
+
+// A charger after an event that is a fresh start or is none; the inhibit state stays.
+pub fn fresh_if(start: bool, c: Charger) -> Charger
+    ensures { λ r. ⌜ r ≡ freshIf start c ⌝ }
+{
+    if start { fresh(c.inhibit) } else { c }
+}
+
+fn ask(word: u16) -> Request
+    ensures { λ r. ⌜ r ≡ asked word ⌝ }
+{
+    Request {
+        word: word,
+        age: 0,
+        mark: true,
+    }
+}
+
+fn take_current(c: Charger, word: u16) -> Charger
+    ensures { λ r. ⌜ r ≡ currentSet c word ⌝ }
+{
+    let mut n = c;
+    n.current = ask(word);
+    n.hold = words::choose_bool(c.voltage.mark, false, c.hold);
+    n
+}
+
+fn take_voltage(c: Charger, word: u16) -> Charger
+    ensures { λ r. ⌜ r ≡ voltageSet c word ⌝ }
+{
+    let mut n = c;
+    n.voltage = ask(word);
+    n.hold = words::choose_bool(c.current.mark, false, c.hold);
+    n
+}
+
+fn remark(alarm: bool, q: Request) -> Request
+    ensures { λ r. ⌜ r ≡ remarked alarm q ⌝ }
+{
+    let mut n = q;
+    n.mark = words::choose_bool(alarm, false, q.mark);
+    n
+}
+
+fn take_alarm(c: Charger, word: u16) -> Charger
+    ensures { λ r. ⌜ r ≡ alarmSet c word ⌝ }
+{
+    let alarm = words::is_alarm(word);
+    let mut n = c;
+    n.current = remark(alarm, c.current);
+    n.voltage = remark(alarm, c.voltage);
+    n.hold = alarm;
+    n
+}
+
+fn older(age: u16) -> u16
+    ensures { λ r. ⌜ r ≡ rules.older age ⌝ }
+{
+    if age < 175 { age + 1 } else { age }
+}
+
+fn age_one(q: Request) -> Request
+    ensures { λ r. ⌜ r ≡ aged q ⌝ }
+{
+    let age = older(q.age);
+    Request {
+        word: words::choose(age == 175, 0, q.word),
+        age: age,
+        mark: q.mark,
+    }
+}
+
+fn age_both(c: Charger) -> Charger
+    ensures { λ r. ⌜ r ≡ ticked c ⌝ }
+{
+    let mut n = c;
+    n.current = age_one(c.current);
+    n.voltage = age_one(c.voltage);
+    n
+}
+
+fn zero(on: bool, q: Request) -> Request
+    ensures { λ r. ⌜ r ≡ zeroed on q ⌝ }
+{
+    let mut n = q;
+    n.word = words::choose(on, 0, q.word);
+    n
+}
+
+// POR_RESET is looked at first: a fresh start, and no inhibit.
+fn take_mode(c: Charger, word: u16) -> Charger
+    ensures { λ r. ⌜ r ≡ modeSet c word ⌝ }
+{
+    if words::bit(word, 2) {
+        fresh(false)
+    } else {
+        let on = words::bit(word, 3);
+        let mut n = c;
+        n.current = zero(on, c.current);
+        n.voltage = zero(on, c.voltage);
+        n.inhibit = words::bit(word, 0);
+        n
+    }
+}
+
+// The machine after an accepted ChargingCurrent word, before it settles.
+pub fn set_current(m: Machine, word: u16) -> Machine
+    ensures { λ r. ⌜ r ≡ act m (event.HostWrite 0x12 0x14 word) ⌝ }
+{
+    machine::with_charger(m, take_current(m.charger, word))
+}
+
+// The machine after an accepted ChargingVoltage word.
+pub fn set_voltage(m: Machine, word: u16) -> Machine
+    ensures { λ r. ⌜ r ≡ act m (event.HostWrite 0x12 0x15 word) ⌝ }
+{
+    machine::with_charger(m, take_voltage(m.charger, word))
+}
+
+// The machine after an accepted AlarmWarning word.
+pub fn set_alarm(m: Machine, word: u16) -> Machine
+    ensures { λ r. ⌜ r ≡ act m (event.HostWrite 0x12 0x16 word) ⌝ }
+{
+    machine::with_charger(m, take_alarm(m.charger, word))
+}
+
+// The machine after a ChargerMode word.
+pub fn set_mode(m: Machine, word: u16) -> Machine
+    ensures { λ r. ⌜ r ≡ act m (event.HostWrite 0x12 0x12 word) ⌝ }
+{
+    machine::with_charger(m, take_mode(m.charger, word))
+}
+
+// The machine after a tick.
+pub fn tick(m: Machine) -> Machine
+    ensures { λ r. ⌜ r ≡ act m event.Tick ⌝ }
+{
+    machine::with_charger(m, age_both(m.charger))
+}
+
+fn is_charging(m: Machine) -> bool
+    ensures { λ r. ⌜ r ≡ charging m ⌝ }
+{
+    let bays = m.bays;
+    let bay = machine::named_bay(bays, m.selector.charge);
+    let reading = bay.reading;
+    m.ac
+        & bay.present
+        & board::is_allowed(board::class_read(reading))
+        & !m.charger.inhibit
+        & !m.charger.hold
+        & (m.charger.current.word != 0)
+        & (m.charger.voltage.word != 0)
+}
+
+// The charge output: both requests cut to the limits, or 0 mA and 0 mV.
+pub fn output_of(m: Machine) -> Output
+    ensures { λ r. ⌜ r ≡ output m ⌝ }
+{
+    if is_charging(m) {
+        Output {
+            milliamps: board::limit(m.setup.current, m.charger.current.word),
+            millivolts: board::limit(m.setup.voltage, m.charger.voltage.word),
+        }
+    } else {
+        Output {
+            milliamps: 0,
+            millivolts: 0,
+        }
+    }
+}
+
+fn is_above(l: Limit, request: u16) -> bool
+    ensures { λ r. ⌜ r ≡ aboveLargest l request ⌝ }
+{
+    (l.largest < request) | (request == 65535)
+}
+
+fn signal_bits(bay: Bay) -> u16
+    ensures { λ r. ⌜ (r ≡ signalBits bay) × (r ≤ 0x0F00) ⌝ }
+{
+    let reading = bay.reading;
+    if bay.present {
+        board::class_bits(board::class_read(reading))
+    } else {
+        0x0300
+    }
+}
+
+// The ChargerStatus word that the host reads.
+pub fn status_word(m: Machine) -> u16
+    ensures { λ r. ⌜ r ≡ statusWord m ⌝ }
+{
+    let bays = m.bays;
+    let bay = machine::named_bay(bays, m.selector.charge);
+    words::flag(m.charger.inhibit, 0x1)
+        + 0x10
+        + words::flag(is_above(m.setup.current, m.charger.current.word), 0x40)
+        + words::flag(is_above(m.setup.voltage, m.charger.voltage.word), 0x80)
+        + signal_bits(bay)
+        + words::flag(m.charger.hold, 0x1000)
+        + words::flag(bay.present, 0x4000)
+        + words::flag(m.ac, 0x8000)
+}
