@@ -1,0 +1,2 @@
+pub mod ByMask
+pub mod ByEvent

@@ -1,0 +1,25 @@
+use Rattle.selector.specs.ByEvent.{presetsSet}
+use Rattle.selector.proofs.ByEvent.{on-presets}
+use Rattle.selector.proofs.set_presets.Statement.{statement}
+use Rattle.selector.proofs.set_presets.Tie as tie
+
+returns : tie.Need-returns
+unfolding presetsSet
+returns c =
+    let c2 = c .before .before in
+    let c4 = c2 .before .before in
+    let c5 = c4 .before in
+    let c6 = c5 .before in
+    let c7 = c6 .before in
+    simp (c2 .fresh-if .ensures, c4 .with-bays .ensures, c5 .mark-bays .ensures, c6 .nibble .ensures .0, c7 .keep-charge .ensures, on-presets)
+
+pub set-presets-spec : {M : Type 1} → statement M
+set-presets-spec =
+    tie.close
+    (tie.spec
+    (λ c κs. tt)
+    (λ c κs. tt)
+    (λ c κs. tt)
+    (λ c κs. tt)
+    (λ c κs. tt)
+    returns)

@@ -1,0 +1,25 @@
+-- The selector's rules read by mask, as proofs/ByMask.antt shows.
+use Prim.Native.Nat.{ℕ}
+use mathlib.Core.List.{List}
+use Rattle.model.specs.declared.Bay.{Bay}
+use Rattle.model.specs.declared.Machine.{Machine}
+use Rattle.model.specs.If.{if_then_else_}
+use Rattle.model.specs.Bays.{bayAt, candidate}
+use Rattle.model.specs.Reads.{mayFollow}
+use Rattle.words.specs.Masks.{four, among, firstIn}
+
+-- the candidates: a bit for each bay
+unfoldable pub candidateNibble : List Bay → ℕ
+candidateNibble bays = four (candidate (bayAt bays 0)) (candidate (bayAt bays 1)) (candidate (bayAt bays 2)) (candidate (bayAt bays 3))
+
+-- the candidates other than the power bay
+unfoldable pub followerNibble : Machine → ℕ
+followerNibble m = four (mayFollow m 1) (mayFollow m 2) (mayFollow m 4) (mayFollow m 8)
+
+-- a nibble that names a bay of the mask, else 0
+unfoldable pub keptIn : ℕ → ℕ → ℕ
+keptIn mask n = if among mask n then n else 0
+
+-- the wanted bay if it is in the mask, else the mask's first by letter, else 0
+unfoldable pub takenFrom : ℕ → ℕ → ℕ
+takenFrom mask wanted = if among mask wanted then wanted else firstIn mask
