@@ -1,0 +1,45 @@
+-- What happens at a bay, and to AC: the model's rules read by event, as proofs/ByEvent.antt shows.
+use Prim.Native.Nat.{ℕ}
+use mathlib.Core.Bool.{Bool, true, false, not, _&&_, _||_}
+use lib.Dec.{ltb, leb}
+use lib.ListN.{set}
+use Rattle.model.specs.declared.Setup.{Setup}
+use Rattle.model.specs.declared.Reading.the-variants.{Unread, Ohms}
+use Rattle.model.specs.declared.Bay.{Bay}
+use Rattle.model.specs.declared.Machine.{Machine}
+use Rattle.model.specs.If.{if_then_else_}
+use Rattle.model.specs.Words.{names}
+use Rattle.model.specs.Machines.{withBays, withCharger, withSelector, withAc, withNotice}
+use Rattle.charger.specs.ByEvent.{freshIf}
+
+-- a pack that was just put in
+abbrev pub newPack : Bay
+newPack = record { present = true; ok = true; low = false; reading = Unread }
+
+-- a pack put in or pulled: a fresh start at the CHARGE bay
+unfoldable pub swapped : Machine → ℕ → Bay → Machine
+swapped m b bay = withNotice (withCharger (withBays m (set (m .bays) b bay)) (freshIf (names (m .selector .charge) b) (m .charger))) true
+
+-- a bay whose signal was read
+abbrev pub signalRead : Bay → ℕ → Bay
+signalRead bay ohms = record { present = bay .present; ok = bay .ok; low = bay .low; reading = Ohms ohms }
+
+-- a bay whose terminal voltage was read
+abbrev pub terminalRead : Setup → Bay → ℕ → Bay
+terminalRead s bay v =
+    record {
+      present = bay .present;
+      ok = bay .ok;
+      low = if ltb v (s .low) then true else if leb (s .restart) v then false else bay .low;
+      reading = bay .reading;
+    }
+
+-- AC goes: a fresh start; AC arrives: POWER_BY 0; either sets the notice
+unfoldable pub acSet : Machine → Bool → Machine
+acSet m present =
+    withNotice
+    (withAc
+    (withSelector (withCharger m (freshIf (m .ac && not present) (m .charger)))
+    (record { smb = m .selector .smb; power = if not (m .ac) && present then 0 else m .selector .power; charge = m .selector .charge; next = m .selector .next }))
+    present)
+    (not (m .ac) && present || m .ac && not present || m .notice)
