@@ -1,0 +1,47 @@
+-- How a step ends: an accepted event settles the machine, a refused one leaves it as it stood.
+use Prim.Native.Nat.{ℕ, zero, suc}
+use mathlib.Core.Path.{_≡_, refl, sym, _∙_}
+use mathlib.Core.Bool.{Bool, true, false, cond}
+use Rattle.model.specs.declared.Answer.{Answer}
+use Rattle.model.specs.declared.Answer.the-variants.{Done, Word, Refused}
+use Rattle.model.specs.declared.Machine.{Machine}
+use Rattle.model.specs.declared.Event.{Event}
+use Rattle.model.specs.declared.Stepped.{Stepped}
+use Rattle.model.specs.Numbers.{done, word, said}
+use Rattle.model.specs.Settling.{settle}
+use Rattle.model.specs.Reads.{isRead, wordShown}
+use Rattle.model.specs.Refusals.{fault}
+use Rattle.model.specs.Step.{told, reply, outcome}
+use Rattle.actions.specs.Meaning.{unsettled, meant, isAccepted, accepts, finished}
+
+as-said : (a : Answer) → accepts (said a) ≡ isAccepted a
+as-said Done = refl
+as-said (Word w) = refl
+as-said (Refused why) = refl
+
+module _ (t : Stepped) where
+  pub settles : isAccepted (t .answer) ≡ true → told (record { answer = t .answer; machine = settle (t .machine) }) ≡ finished (told t)
+  unfolding told finished
+  settles q = sym (rw (as-said (t .answer) ∙ q))
+
+  pub stands : isAccepted (t .answer) ≡ false → told t ≡ finished (told t)
+  unfolding told finished
+  stands q = sym (rw (as-said (t .answer) ∙ q))
+
+-- an accepted event's answer is no refusal
+replies : (m : Machine) (e : Event) → accepts (reply m e) ≡ true
+unfolding reply
+replies m e = go (isRead e)
+  where
+    go : (t : Bool) → accepts (cond t (word (wordShown m e)) done) ≡ true
+    go true = refl
+    go false = refl
+
+-- so the step of the model is what the event means, finished
+pub finishes : (m : Machine) (e : Event) → finished (meant m e) ≡ outcome (fault m e) m e
+unfolding meant unsettled finished outcome
+finishes m e = go (fault m e)
+  where
+    go : (n : ℕ) → finished (unsettled n m e) ≡ outcome n m e
+    go zero = rw (replies m e)
+    go (suc n) = refl

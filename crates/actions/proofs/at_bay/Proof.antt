@@ -1,0 +1,39 @@
+use Rattle.actions.specs.Decision.{atBay}
+use Rattle.actions.proofs.at_bay.Statement.{statement}
+use Rattle.actions.proofs.at_bay.Tie as tie
+
+returns : tie.Need-returns
+unfolding atBay
+returns c =
+    let c1 = c .before in
+    let c3 = c1 .before .before in
+    let c4 = c3 .before in
+    let c5 = c4 .before in
+    simp (c .if2 .taken, ← c1 .choose-bool .ensures, c3 .if1 .taken, ← c4 .is-supported .ensures, ← c5 .bay-at .ensures)
+
+returns-2 : tie.Need-returns-2
+unfolding atBay
+returns-2 c =
+    let c1 = c .before in
+    let c3 = c1 .before .before in
+    let c4 = c3 .before in
+    let c5 = c4 .before in
+    simp (c .if2 .left, ← c1 .choose-bool .ensures, c3 .if1 .taken, ← c4 .is-supported .ensures, ← c5 .bay-at .ensures)
+
+returns-3 : tie.Need-returns-3
+unfolding atBay
+returns-3 c =
+    let c1 = c .before in
+    let c2 = c1 .before in
+    simp (c .if1 .left, ← c1 .is-supported .ensures, ← c2 .bay-at .ensures)
+
+pub at-bay-spec : {M : Type 1} → statement M
+at-bay-spec =
+    tie.close
+    (tie.spec
+    (λ c κs. tt)
+    (λ c κs. tt)
+    (λ c κs. tt)
+    returns
+    returns-2
+    returns-3)
