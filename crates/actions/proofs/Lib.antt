@@ -2,4 +2,5 @@
 pub mod Keys
 pub mod Faults
 pub mod Senders
+pub mod Decides
 pub mod Ends

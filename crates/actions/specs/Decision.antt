@@ -1,15 +1,17 @@
 -- The code's decisions: over sender, address and code, and over what is needed of a bay.
 use Prim.Native.Nat.{ℕ, _+_, _*_}
-use mathlib.Core.Bool.{Bool, not, _&&_}
+use mathlib.Core.Bool.{Bool, true, false, not, _&&_}
 use lib.Dec.{eqb}
 use Rattle.model.specs.declared.Machine.{Machine}
+use Rattle.model.specs.declared.Event.{Event}
+use Rattle.model.specs.declared.Event.the-variants.{HostWrite, HostRead, BayWord, Insertion, Removal, Signal, Terminal, Ac, Tick}
 use Rattle.model.specs.declared.Refusal.the-variants.{NoSuchWord, NotChargingBay, UnsupportedBay, WrongPresence}
 use Rattle.model.specs.If.{if_then_else_}
 use Rattle.model.specs.Words.{names}
 use Rattle.model.specs.Refusals.{supports}
 use Rattle.machine.specs.ByNumber.{bayIn}
 use Rattle.actions.specs.declared.Action.{Action}
-use Rattle.actions.specs.declared.Action.the-variants.{SetCurrent, SetVoltage, SetAlarm, SetMode, SetState, SetPresets, ReadSpec, ReadStatus, ReadState, ReadPresets, ReadInfo, Refuse}
+use Rattle.actions.specs.declared.Action.the-variants.{SetCurrent, SetVoltage, SetAlarm, SetMode, SetState, SetPresets, ReadSpec, ReadStatus, ReadState, ReadPresets, ReadInfo, Insert, Remove, TakeSignal, TakeTerminal, SetAc, Age, Refuse}
 
 -- sender, address and code in one number
 abbrev pub keyOf : ℕ → ℕ → ℕ → ℕ
@@ -56,3 +58,15 @@ atBay m b full a =
     if (if full then bayIn (m .bays) b .present else not (bayIn (m .bays) b .present)) then a
     else Refuse WrongPresence
     else Refuse UnsupportedBay
+
+-- what an event comes to, but for what a selector word itself says
+abbrev pub decided : Machine → Event → Action
+decided m (HostWrite address code w) = chosen 0 address code w
+decided m (HostRead address code) = chosen 1 address code 0
+decided m (BayWord b code w) = fromBay m b code w
+decided m (Insertion b) = atBay m b false (Insert b)
+decided m (Removal b) = atBay m b true (Remove b)
+decided m (Signal b ohms) = atBay m b true (TakeSignal b ohms)
+decided m (Terminal b millivolts) = atBay m b true (TakeTerminal b millivolts)
+decided m (Ac present) = SetAc present
+decided m Tick = Age

@@ -9,7 +9,7 @@ ghost use Rattle.model.specs.declared.Answer.the-variants as answer;
 ghost use Rattle.model.specs.declared.Event.the-variants as event;
 ghost use Rattle.model.specs.Step.{told};
 ghost use Rattle.actions.specs.Meaning.{meant, meantBy, finished, isAccepted};
-ghost use Rattle.actions.specs.Decision.{keyOf, senderAt, chosen, atBay, fromBay};
+ghost use Rattle.actions.specs.Decision.{keyOf, chosen, senderAt, fromBay, atBay, decided};
 
 // One action for each register and each thing that can happen, with what it needs; or the refusal.
 pub enum Action {
@@ -110,7 +110,7 @@ fn at_bay(m: Machine, b: u8, full: bool, then: Action) -> Action
 
 // What an event comes to on a good machine, but for what the word itself says.
 pub fn decide(m: Machine, e: Event) -> Action
-    ensures { λ r. ⌜ meantBy m r ≡ meant m e ⌝ }
+    ensures { λ r. ⌜ r ≡ decided m e ⌝ }
 {
     match e {
         Event::HostWrite {
