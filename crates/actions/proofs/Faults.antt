@@ -20,7 +20,7 @@ use Rattle.model.specs.Reads.{statusWord, stateShown, presetsShown, infoShown, 
 use Rattle.model.specs.Refusals.{supports, unsupportedBay, notChargingBay, oneBay, stateFormed, badNibble, smbElsewhere, notUsable, sameBay, wrongPresence, fault}
 use Rattle.model.specs.Step.{reply}
 use Rattle.model.proofs.Bools.{and-l}
-use Rattle.machine.specs.ByNumber.{bayIn, ifBay}
+use Rattle.machine.specs.ByNumber.{bayIn}
 use Rattle.charger.specs.ByEvent.{freshIf}
 use Rattle.charger.proofs.ByEvent.{same}
 use Rattle.charger.proofs.Afresh.{Quiet, fresh-or-kept}
@@ -152,21 +152,21 @@ supports-small s b = and-l (ltb b 4) _
 at-a-bay : (m : Machine) (e : Event) (b : ℕ) (right : Bool → Bool) (a : Action) →
     fault m e ≡ cond (not (supports (m .setup) b)) 2 (cond (not (right (bayAt (m .bays) b .present))) 9 0) →
     reply m e ≡ done →
-    meantBy m a ≡ doneWith (ifBay b (act m e) m) →
+    meantBy m a ≡ doneWith (act m e) →
     meantBy m (cond (supports (m .setup) b) (cond (right (bayIn (m .bays) b .present)) a (Refuse WrongPresence)) (Refuse UnsupportedBay)) ≡ meant m e
-unfolding unsettled meantBy bayIn ifBay
-at-a-bay m e b right a f r q = sym (by-fault m e _ f ∙ go (supports (m .setup) b) (ltb b 4) (supports-small (m .setup) b) (bayAt (m .bays) b) q)
+unfolding unsettled meantBy bayIn
+at-a-bay m e b right a f r q = sym (by-fault m e _ f ∙ go (supports (m .setup) b) (ltb b 4) (supports-small (m .setup) b) (bayAt (m .bays) b))
   where
-    go : (s t : Bool) → (s ≡ true → t ≡ true) → (x : Bay) → meantBy m a ≡ doneWith (cond t (act m e) m) →
+    go : (s t : Bool) → (s ≡ true → t ≡ true) → (x : Bay) →
         unsettled (cond (not s) 2 (cond (not (right (x .present))) 9 0)) m e
         ≡ meantBy m (cond s (cond (right (cond t x emptyBay .present)) a (Refuse WrongPresence)) (Refuse UnsupportedBay))
-    go true true h x q = pack (right (x .present))
+    go true true h x = pack (right (x .present))
       where
         pack : (p : Bool) → unsettled (cond (not p) 9 0) m e ≡ meantBy m (cond p a (Refuse WrongPresence))
         pack true = rw r (sym q)
         pack false = refl
-    go true false h x q = absurd (false≢true (h refl))
-    go false t h x q = refl
+    go true false h x = absurd (false≢true (h refl))
+    go false t h x = refl
 
 pub on-insertion : (m : Machine) (b : ℕ) → meantBy m (decision.atBay m b false (Insert b)) ≡ meant m (Insertion b)
 unfolding decision.atBay meantBy tests

@@ -13,7 +13,6 @@ use Rattle.model.specs.Settling.{settle}
 use Rattle.model.specs.Reads.{statusWord, stateShown, presetsShown, infoShown}
 use Rattle.model.specs.Refusals.{fault}
 use Rattle.model.specs.Step.{Told, reply}
-use Rattle.machine.specs.ByNumber.{ifBay}
 use Rattle.actions.specs.declared.Action.{Action}
 use Rattle.actions.specs.declared.Action.the-variants.{SetCurrent, SetVoltage, SetAlarm, SetMode, SetState, SetPresets, ReadSpec, ReadStatus, ReadState, ReadPresets, ReadInfo, Insert, Remove, TakeSignal, TakeTerminal, SetAc, Age, Refuse}
 
@@ -38,7 +37,7 @@ unsettled (suc n) m e = refusedWith (suc n) m
 unfoldable pub meant : Machine → Event → Told
 meant m e = unsettled (fault m e) m e
 
--- an action, before the machine settles; at a number that is no bay's nothing happens
+-- an action, before the machine settles
 unfoldable pub meantBy : Machine → Action → Told
 meantBy m (SetCurrent w) = doneWith (act m (HostWrite 0x12 0x14 w))
 meantBy m (SetVoltage w) = doneWith (act m (HostWrite 0x12 0x15 w))
@@ -51,10 +50,10 @@ meantBy m ReadStatus = shownWith (statusWord m) m
 meantBy m ReadState = shownWith (stateShown m) (withNotice m false)
 meantBy m ReadPresets = shownWith (presetsShown m) m
 meantBy m ReadInfo = shownWith (infoShown m) m
-meantBy m (Insert b) = doneWith (ifBay b (act m (Insertion b)) m)
-meantBy m (Remove b) = doneWith (ifBay b (act m (Removal b)) m)
-meantBy m (TakeSignal b ohms) = doneWith (ifBay b (act m (Signal b ohms)) m)
-meantBy m (TakeTerminal b millivolts) = doneWith (ifBay b (act m (Terminal b millivolts)) m)
+meantBy m (Insert b) = doneWith (act m (Insertion b))
+meantBy m (Remove b) = doneWith (act m (Removal b))
+meantBy m (TakeSignal b ohms) = doneWith (act m (Signal b ohms))
+meantBy m (TakeTerminal b millivolts) = doneWith (act m (Terminal b millivolts))
 meantBy m (SetAc present) = doneWith (act m (Ac present))
 meantBy m Age = doneWith (act m Tick)
 meantBy m (Refuse why) = refusedWith (numberOf why) m

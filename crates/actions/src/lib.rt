@@ -72,8 +72,7 @@ fn sender_of(m: Machine, b: u8) -> u8
     ensures { λ r. ⌜ r ≡ senderAt m b ⌝ }
 {
     let bays = m.bays;
-    let bay = machine::bay_at(bays, b);
-    if bay.present & words::names(m.selector.charge, b) {
+    if machine::is_present(bays, b) & words::names(m.selector.charge, b) {
         2
     } else {
         3
@@ -96,9 +95,9 @@ fn at_bay(m: Machine, b: u8, full: bool, then: Action) -> Action
     ensures { λ r. ⌜ r ≡ atBay m b full then ⌝ }
 {
     let bays = m.bays;
-    let bay = machine::bay_at(bays, b);
+    let present = machine::is_present(bays, b);
     if machine::is_supported(m.setup, b) {
-        if words::choose_bool(full, bay.present, !bay.present) {
+        if words::choose_bool(full, present, !present) {
             then
         } else {
             Action::Refuse(Refusal::WrongPresence)

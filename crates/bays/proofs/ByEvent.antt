@@ -1,21 +1,21 @@
 -- The model's rules, by register, at what happens at a bay and to AC.
-use Prim.Native.Nat.{ℕ}
-use mathlib.Core.Path.{_≡_, refl, sym}
+use Prim.Native.Nat.{ℕ, _<_}
+use mathlib.Core.Path.{_≡_, refl}
+use mathlib.Core.List.{List}
 use mathlib.Core.Bool.{Bool, true, false, not, cond, _&&_, _||_, and-false, or-false}
-use lib.Dec.{ltb}
-use lib.ListN.{set}
+use lib.Dec.{ltb, eqb, lit<}
+use borrow.Author.Tests.{eqb-true, lt-ltb}
 use Rattle.model.specs.declared.Bay.{Bay}
 use Rattle.model.specs.declared.Machine.{Machine}
-use Rattle.model.specs.declared.Event.{Event}
 use Rattle.model.specs.declared.Event.the-variants.{Insertion, Removal, Signal, Terminal, Ac}
 use Rattle.model.specs.Words.{names}
-use Rattle.model.specs.Bays.{emptyBay, bayAt, baysAfter}
+use Rattle.model.specs.Bays.{emptyBay, bayAt, fourBays, baysAfter}
 use Rattle.model.specs.Events.{kindOf, kindNumber, is, atBay, swaps, swapsAt, saysPresent, resets, connects}
 use Rattle.model.specs.SelectorRules.{acAfter, acArrives, acGoes, smbAfter, powerAfter, dropsCharge, chargeAfter, nextAfter, noticeAfter}
 use Rattle.model.specs.ChargerRules.{fresh}
 use Rattle.model.specs.Machines.{withBays, act}
 use Rattle.model.proofs.Computes.{computes}
-use Rattle.machine.specs.ByNumber.{bayIn, ifBay}
+use Rattle.machine.specs.ByNumber.{bayIn, putBay}
 use Rattle.charger.proofs.ByEvent.{same}
 use Rattle.charger.proofs.Afresh.{fresh-or-kept}
 use Rattle.bays.specs.ByEvent.{newPack, swapped, signalRead, terminalRead, acSet}
@@ -31,40 +31,38 @@ unfolding computes
 fresh-out m b = simp (same, or-false)
 
 pub on-insertion : (m : Machine) (b : ℕ) → act m (Insertion b) ≡ swapped m b newPack
-unfolding computes swapped
+unfolding computes swapped putBay
 on-insertion m b = simp (fresh-in, fresh-or-kept (Insertion b) (refl, refl, refl, refl, refl))
 
 pub on-removal : (m : Machine) (b : ℕ) → act m (Removal b) ≡ swapped m b emptyBay
-unfolding computes swapped
+unfolding computes swapped putBay
 on-removal m b = simp (fresh-out, fresh-or-kept (Removal b) (refl, refl, refl, refl, refl))
 
 -- a pack's signal and terminal voltage
 
-on-signal : (m : Machine) (b ohms : ℕ) → act m (Signal b ohms) ≡ withBays m (set (m .bays) b (signalRead (bayAt (m .bays) b) ohms))
-unfolding computes
-on-signal m b ohms = simp (same, and-false)
-
-on-terminal : (m : Machine) (b v : ℕ) → act m (Terminal b v) ≡ withBays m (set (m .bays) b (terminalRead (m .setup) (bayAt (m .bays) b) v))
-unfolding computes
-on-terminal m b v = simp (same, and-false)
-
--- as the code has it: nothing changes where there is no such bay
-at-number : (m : Machine) (e : Event) (b : ℕ) (read : Bay → Bay) → act m e ≡ withBays m (set (m .bays) b (read (bayAt (m .bays) b))) →
-    ifBay b (withBays m (set (m .bays) b (read (bayIn (m .bays) b)))) m ≡ ifBay b (act m e) m
-unfolding ifBay bayIn
-at-number m e b read q = go (ltb b 4)
+-- a bay that was found by its number is the one that is put back
+found : (bays : List Bay) (b k : ℕ) (read : Bay → Bay) → k < 4 →
+    cond (eqb b k) (read (bayIn bays b)) (bayAt bays k) ≡ cond (eqb b k) (read (bayAt bays k)) (bayAt bays k)
+unfolding bayIn
+found bays b k read l = go (eqb b k) refl
   where
-    go : (t : Bool) → cond t (withBays m (set (m .bays) b (read (cond t (bayAt (m .bays) b) emptyBay)))) m ≡ cond t (act m e) m
-    go true = sym q
-    go false = refl
+    go : (t : Bool) → eqb b k ≡ t → cond t (read (cond (ltb b 4) (bayAt bays b) emptyBay)) (bayAt bays k) ≡ cond t (read (bayAt bays k)) (bayAt bays k)
+    go true q = rw (eqb-true b k q, lt-ltb k 4 l)
+    go false q = refl
 
-pub signal-at : (m : Machine) (b ohms : ℕ) →
-    ifBay b (withBays m (set (m .bays) b (signalRead (bayIn (m .bays) b) ohms))) m ≡ ifBay b (act m (Signal b ohms)) m
-signal-at m b ohms = at-number m (Signal b ohms) b (λ bay. signalRead bay ohms) (on-signal m b ohms)
+at-number : (bays : List Bay) (b : ℕ) (read : Bay → Bay) →
+    putBay bays b (read (bayIn bays b)) ≡ fourBays (λ k. cond (eqb b k) (read (bayAt bays k)) (bayAt bays k))
+unfolding putBay
+at-number bays b read = rw (found bays b 0 read (lit< tt), found bays b 1 read (lit< tt), found bays b 2 read (lit< tt), found bays b 3 read (lit< tt))
 
-pub terminal-at : (m : Machine) (b v : ℕ) →
-    ifBay b (withBays m (set (m .bays) b (terminalRead (m .setup) (bayIn (m .bays) b) v))) m ≡ ifBay b (act m (Terminal b v)) m
-terminal-at m b v = at-number m (Terminal b v) b (λ bay. terminalRead (m .setup) bay v) (on-terminal m b v)
+pub on-signal : (m : Machine) (b ohms : ℕ) → act m (Signal b ohms) ≡ withBays m (putBay (m .bays) b (signalRead (bayIn (m .bays) b) ohms))
+unfolding computes
+on-signal m b ohms = rw (at-number (m .bays) b (λ bay. signalRead bay ohms)) (simp (same, and-false))
+
+pub on-terminal : (m : Machine) (b v : ℕ) →
+    act m (Terminal b v) ≡ withBays m (putBay (m .bays) b (terminalRead (m .setup) (bayIn (m .bays) b) v))
+unfolding computes
+on-terminal m b v = rw (at-number (m .bays) b (λ bay. terminalRead (m .setup) bay v)) (simp (same, and-false))
 
 -- AC
 

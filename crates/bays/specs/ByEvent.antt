@@ -2,7 +2,6 @@
 use Prim.Native.Nat.{ℕ}
 use mathlib.Core.Bool.{Bool, true, false, not, _&&_, _||_}
 use lib.Dec.{ltb, leb}
-use lib.ListN.{set}
 use Rattle.model.specs.declared.Setup.{Setup}
 use Rattle.model.specs.declared.Reading.the-variants.{Unread, Ohms}
 use Rattle.model.specs.declared.Bay.{Bay}
@@ -10,6 +9,7 @@ use Rattle.model.specs.declared.Machine.{Machine}
 use Rattle.model.specs.If.{if_then_else_}
 use Rattle.model.specs.Words.{names}
 use Rattle.model.specs.Machines.{withBays, withCharger, withSelector, withAc, withNotice}
+use Rattle.machine.specs.ByNumber.{putBay}
 use Rattle.charger.specs.ByEvent.{freshIf}
 
 -- a pack that was just put in
@@ -18,7 +18,7 @@ newPack = record { present = true; ok = true; low = false; reading = Unread }
 
 -- a pack put in or pulled: a fresh start at the CHARGE bay
 unfoldable pub swapped : Machine → ℕ → Bay → Machine
-swapped m b bay = withNotice (withCharger (withBays m (set (m .bays) b bay)) (freshIf (names (m .selector .charge) b) (m .charger))) true
+swapped m b bay = withNotice (withCharger (withBays m (putBay (m .bays) b bay)) (freshIf (names (m .selector .charge) b) (m .charger))) true
 
 -- a bay whose signal was read
 abbrev pub signalRead : Bay → ℕ → Bay

@@ -6,7 +6,6 @@ use model::Setup;
 ghost use mathlib.Core.Path.{_≡_};
 ghost use Rattle.model.specs.declared.Event.the-variants as event;
 ghost use Rattle.model.specs.Machines.{act};
-ghost use Rattle.machine.specs.ByNumber.{ifBay};
 ghost use Rattle.bays.specs.ByEvent.{newPack, swapped, signalRead, terminalRead};
 
 fn new_pack() -> Bay
@@ -20,33 +19,27 @@ fn new_pack() -> Bay
     }
 }
 
-// A machine whose bay b now holds another pack or none, itself where there is no such bay.
+// A machine whose bay b now holds another pack or none.
 fn swap(m: Machine, b: u8, bay: Bay) -> Machine
-    ensures { λ r. ⌜ r ≡ ifBay b (swapped m b bay) m ⌝ }
+    ensures { λ r. ⌜ r ≡ swapped m b bay ⌝ }
 {
-    if b < 4 {
-        let i = b as usize;
-        let c = charger::fresh_if(words::names(m.selector.charge, b), m.charger);
-        let mut n = m;
-        n.bays[i] = bay;
-        n.charger = c;
-        n.notice = true;
-        n
-    } else {
-        m
-    }
+    let bays = m.bays;
+    let mut n = machine::with_bays(m, machine::put_bay(bays, b, bay));
+    n.charger = charger::fresh_if(words::names(m.selector.charge, b), m.charger);
+    n.notice = true;
+    n
 }
 
-// The machine after a pack was put in, before it settles; itself where there is no such bay.
+// The machine after a pack was put in, before it settles.
 pub fn insert(m: Machine, b: u8) -> Machine
-    ensures { λ r. ⌜ r ≡ ifBay b (act m (event.Insertion b)) m ⌝ }
+    ensures { λ r. ⌜ r ≡ act m (event.Insertion b) ⌝ }
 {
     swap(m, b, new_pack())
 }
 
-// The machine after a pack was pulled, likewise.
+// The machine after a pack was pulled.
 pub fn remove(m: Machine, b: u8) -> Machine
-    ensures { λ r. ⌜ r ≡ ifBay b (act m (event.Removal b)) m ⌝ }
+    ensures { λ r. ⌜ r ≡ act m (event.Removal b) ⌝ }
 {
     swap(m, b, machine::empty_bay())
 }
@@ -62,12 +55,13 @@ fn take_signal(bay: Bay, ohms: u32) -> Bay
     }
 }
 
-// The machine after a bay's safety signal was read, likewise.
+// The machine after a bay's safety signal was read.
 pub fn read_signal(m: Machine, b: u8, ohms: u32) -> Machine
-    ensures { λ r. ⌜ r ≡ ifBay b (act m (event.Signal b ohms)) m ⌝ }
+    ensures { λ r. ⌜ r ≡ act m (event.Signal b ohms) ⌝ }
 {
     let bays = m.bays;
-    machine::with_bay(m, b, take_signal(machine::bay_at(bays, b), ohms))
+    let bay = take_signal(machine::bay_at(bays, b), ohms);
+    machine::with_bays(m, machine::put_bay(bays, b, bay))
 }
 
 fn take_terminal(s: Setup, bay: Bay, millivolts: u16) -> Bay
@@ -82,16 +76,13 @@ fn take_terminal(s: Setup, bay: Bay, millivolts: u16) -> Bay
     n
 }
 
-// The machine after a bay's terminal voltage was read, likewise.
+// The machine after a bay's terminal voltage was read.
 pub fn read_terminal(m: Machine, b: u8, millivolts: u16) -> Machine
-    ensures { λ r. ⌜ r ≡ ifBay b (act m (event.Terminal b millivolts)) m ⌝ }
+    ensures { λ r. ⌜ r ≡ act m (event.Terminal b millivolts) ⌝ }
 {
     let bays = m.bays;
-    machine::with_bay(
-        m,
-        b,
-        take_terminal(m.setup, machine::bay_at(bays, b), millivolts),
-    )
+    let bay = take_terminal(m.setup, machine::bay_at(bays, b), millivolts);
+    machine::with_bays(m, machine::put_bay(bays, b, bay))
 }
 
 // The machine after an AC event, before it settles.

@@ -1,16 +1,15 @@
--- Bays by a number that may be past the four: an empty bay, and a machine as it stands.
+-- Bays by a number that may be past the four.
 use Prim.Native.Nat.{ℕ}
 use mathlib.Core.List.{List}
-use lib.Dec.{ltb}
+use lib.Dec.{ltb, eqb}
 use Rattle.model.specs.declared.Bay.{Bay}
-use Rattle.model.specs.declared.Machine.{Machine}
 use Rattle.model.specs.If.{if_then_else_}
-use Rattle.model.specs.Bays.{emptyBay, bayAt}
+use Rattle.model.specs.Bays.{emptyBay, bayAt, fourBays}
 
 -- bay number b; an empty one past the four
 unfoldable pub bayIn : List Bay → ℕ → Bay
 bayIn bays b = if ltb b 4 then bayAt bays b else emptyBay
 
--- the next machine if there is a bay b, else the machine as it stands
-unfoldable pub ifBay : ℕ → Machine → Machine → Machine
-ifBay b next m = if ltb b 4 then next else m
+-- another bay at number b, the rest as they are
+unfoldable pub putBay : List Bay → ℕ → Bay → List Bay
+putBay bays b bay = fourBays (λ k. if eqb b k then bay else bayAt bays k)

@@ -6,11 +6,12 @@ use model::Machine;
 use model::Reading;
 use model::Setup;
 ghost use mathlib.Core.Path.{_≡_};
-ghost use lib.ListN.{set};
+ghost use mathlib.Core.Bool.{cond};
 ghost use Rattle.model.specs.Bays.{emptyBay, bayNamed};
 ghost use Rattle.model.specs.Machines.{withBays, withCharger, withNotice};
+ghost use Rattle.model.specs.Reads.{presentNibble};
 ghost use Rattle.model.specs.Refusals.{supports, oneBay, goodLimit, goodSetup, wasRead, strayBay, strayBays, strayNibble, overAge, badMachine};
-ghost use Rattle.machine.specs.ByNumber.{bayIn, ifBay};
+ghost use Rattle.machine.specs.ByNumber.{bayIn, putBay};
 
 fn is_good_limit(l: Limit) -> bool
     ensures { λ r. ⌜ r ≡ goodLimit l ⌝ }
@@ -40,7 +41,7 @@ pub fn is_supported(s: Setup, b: u8) -> bool
 pub fn is_one_bay(s: Setup, n: u16) -> bool
     ensures { λ r. ⌜ r ≡ oneBay s n ⌝ }
 {
-    (n == 0) | words::is_among(s.supported, n)
+    (n == 0) | (words::is_named(n) & (s.supported & n != 0))
 }
 
 fn was_read(reading: Reading) -> bool
@@ -73,11 +74,11 @@ fn are_stray_bays(s: Setup, bays: [Bay; 4]) -> bool
 fn has_stray_nibble(m: Machine) -> bool
     ensures { λ r. ⌜ r ≡ strayNibble m ⌝ }
 {
-    let s = m.setup;
-    !is_one_bay(s, m.selector.smb)
-        | !is_one_bay(s, m.selector.power)
-        | !is_one_bay(s, m.selector.charge)
-        | !is_one_bay(s, m.selector.next)
+    let supported = m.setup.supported;
+    !words::is_one_of(supported, m.selector.smb)
+        | !words::is_one_of(supported, m.selector.power)
+        | !words::is_one_of(supported, m.selector.charge)
+        | !words::is_one_of(supported, m.selector.next)
 }
 
 fn is_over_age(m: Machine) -> bool
@@ -129,18 +130,40 @@ pub fn named_bay(bays: [Bay; 4], n: u16) -> Bay
     }
 }
 
-// The machine with another bay at number b, itself where there is none.
-pub fn with_bay(m: Machine, b: u8, bay: Bay) -> Machine
-    ensures { λ r. ⌜ r ≡ ifBay b (withBays m (set (m .bays) b bay)) m ⌝ }
+fn choose_bay(c: bool, a: Bay, b: Bay) -> Bay
+    ensures { λ r. ⌜ r ≡ cond c a b ⌝ }
 {
-    if b < 4 {
-        let i = b as usize;
-        let mut n = m;
-        n.bays[i] = bay;
-        n
-    } else {
-        m
-    }
+    if c { a } else { b }
+}
+
+// The bays with another at number b, all as they are where there is no such bay.
+pub fn put_bay(bays: [Bay; 4], b: u8, bay: Bay) -> [Bay; 4]
+    ensures { λ r. ⌜ r ≡ putBay bays b bay ⌝ }
+{
+    let first = choose_bay(b == 0, bay, bays[0]);
+    let second = choose_bay(b == 1, bay, bays[1]);
+    let third = choose_bay(b == 2, bay, bays[2]);
+    let fourth = choose_bay(b == 3, bay, bays[3]);
+    [first, second, third, fourth]
+}
+
+// The bays that hold a pack, as a mask.
+pub fn present_nibble(bays: [Bay; 4]) -> u16
+    ensures { λ r. ⌜ r ≡ presentNibble bays ⌝ }
+{
+    words::mask(
+        bays[0].present,
+        bays[1].present,
+        bays[2].present,
+        bays[3].present,
+    )
+}
+
+// Whether bay b holds a pack.
+pub fn is_present(bays: [Bay; 4], b: u8) -> bool
+    ensures { λ r. ⌜ r ≡ bayIn bays b .present ⌝ }
+{
+    words::bit(present_nibble(bays), b as u16)
 }
 
 // The machine with its bays anew.

@@ -1,12 +1,9 @@
 -- The bays, and what the past says of each: its pack and its reading.
 use Prim.Native.Nat.{ℕ, zero, suc, _<_}
-use mathlib.Core.Path.{_≡_, refl, sym}
+use mathlib.Core.Path.{_≡_, refl}
 use mathlib.Core.Bool.{Bool, true, false, cond, _&&_, _||_, and-true, and-false, true≢false}
 use mathlib.Core.List.{List, [], _∷_}
 use lib.Dec.{eqb}
-use lib.ListN.{set, length, length-set}
-use lib.Seq.{getD-set-same, getD-set-other}
-use borrow.Author.Tests.{eqb-true, eqb-false}
 use native.Mathlib.Omega.{arith}
 use Rattle.model.specs.declared.Setup.{Setup}
 use Rattle.model.specs.declared.Bay.{Bay}
@@ -15,7 +12,7 @@ use Rattle.model.specs.declared.Machine.{Machine}
 use Rattle.model.specs.Words.{named, bayNumber}
 use Rattle.model.specs.Board.{allows}
 use Rattle.model.specs.Events.{presetsWord, insertion, removal, signal, terminal, is, isAt, atBay, wordOf, bayOf}
-use Rattle.model.specs.Bays.{emptyBay, bayAt, bayNamed, presentAfter, readingAfter, bayAfter, baysAfter, okWritten, allOkWritten}
+use Rattle.model.specs.Bays.{emptyBay, bayAt, bayNamed, presentAfter, readingAfter, bayAfter, okWritten, fourBays, allOkWritten, baysAfter}
 use Rattle.model.specs.Machines.{powerOn}
 use Rattle.model.specs.Facts.{Past, holdsPack, packAt, reading}
 use Rattle.model.proofs.Bools.{choose}
@@ -25,7 +22,6 @@ pub record BayAgrees (bay : Bay) (b : ℕ) (h : Past) : Type 0 where
   pub reading-is : bay .reading ≡ reading b h
 
 pub record BaysAgree (bays : List Bay) (h : Past) : Type 0 where
-  pub four : length bays ≡ 4
   pub each : (b : ℕ) → b < 4 → BayAgrees (bayAt bays b) b h
 
 -- what holds of each of the four bays
@@ -36,38 +32,22 @@ below-four P p₀ p₁ p₂ p₃ (suc (suc zero)) l = p₂
 below-four P p₀ p₁ p₂ p₃ (suc (suc (suc zero))) l = p₃
 below-four P p₀ p₁ p₂ p₃ (suc (suc (suc (suc b)))) l = absurd (omega arith)
 
--- a Presets word, bay by bay
-pub ok-written-at : (w : ℕ) (bays : List Bay) (b : ℕ) → b < 4 → bayAt (allOkWritten w bays) b ≡ okWritten w b (bayAt bays b)
-unfolding allOkWritten bayAt
-ok-written-at w bays = below-four (λ b. bayAt (allOkWritten w bays) b ≡ okWritten w b (bayAt bays b)) refl refl refl refl
+-- four bays, each by its number
+pub four-at : (bay : ℕ → Bay) (b : ℕ) → b < 4 → bayAt (fourBays bay) b ≡ bay b
+unfolding bayAt
+four-at bay = below-four (λ b. bayAt (fourBays bay) b ≡ bay b) refl refl refl refl
 
 -- bay b after an event: at this bay, at another, a Presets word, or none of these
-pub each-bay : (P : Bay → Type 0) (s : Setup) (bays : List Bay) (e : Event) (b : ℕ) → length bays ≡ 4 → b < 4 →
+pub each-bay : (P : Bay → Type 0) (s : Setup) (bays : List Bay) (e : Event) (b : ℕ) → b < 4 →
     (atBay e ≡ true → eqb (bayOf e) b ≡ true → P (bayAfter s e (bayAt bays b))) →
     (eqb (bayOf e) b ≡ false → P (bayAt bays b)) →
     (atBay e ≡ false → P (okWritten (wordOf e) b (bayAt bays b))) →
     (atBay e ≡ false → P (bayAt bays b)) →
     P (bayAt (baysAfter s bays e) b)
-unfolding baysAfter bayAt
-each-bay P s bays e b four l here elsewhere presets nowhere =
-    choose (λ x. P (bayAt x b)) (atBay e) _ _ (λ a. at a (eqb (bayOf e) b) refl)
-    (λ a. choose (λ x. P (bayAt x b)) (is presetsWord e) _ _ (λ _. rw (ok-written-at (wordOf e) bays b l) (presets a)) (λ _. nowhere a))
-  where
-    new : Bay
-    new = bayAfter s e (bayAt bays (bayOf e))
-
-    at : atBay e ≡ true → (t : Bool) → eqb (bayOf e) b ≡ t → P (bayAt (set bays (bayOf e) new) b)
-    at a true q =
-        let z : bayOf e ≡ b = eqb-true _ _ q in
-        let n : b < length bays = omega (arith, four) in
-        rw (z, getD-set-same) (here a q)
-    at a false q = rw (getD-set-other bays (bayOf e) b new emptyBay (λ z. eqb-false _ _ q (sym z))) (elsewhere q)
-
-pub four-after : (s : Setup) (bays : List Bay) (e : Event) → length bays ≡ 4 → length (baysAfter s bays e) ≡ 4
 unfolding baysAfter allOkWritten
-four-after s bays e four =
-    choose (λ x. length x ≡ 4) (atBay e) (set bays (bayOf e) (bayAfter s e (bayAt bays (bayOf e)))) _ (λ _. rw length-set four)
-    (λ _. choose (λ x. length x ≡ 4) (is presetsWord e) (allOkWritten (wordOf e) bays) bays (λ _. refl) (λ _. four))
+each-bay P s bays e b l here elsewhere presets nowhere =
+    choose (λ x. P (bayAt x b)) (atBay e) _ _ (λ a. rw (four-at _ b l) (choose P (eqb (bayOf e) b) _ _ (here a) elsewhere))
+    (λ a. choose (λ x. P (bayAt x b)) (is presetsWord e) _ _ (λ _. rw (four-at _ b l) (presets a)) (λ _. nowhere a))
 
 -- at power-on each bay is empty
 pub empty-at : (s : Setup) (b : ℕ) → b < 4 → bayAt (powerOn s .bays) b ≡ emptyBay
@@ -98,9 +78,8 @@ here s e b h bay q a = record { present-is = simp (q, and-true, a .present-is); 
 pub bays-step : (m : Machine) (e : Event) (h : Past) → BaysAgree (m .bays) h → BaysAgree (baysAfter (m .setup) (m .bays) e) (e ∷ h)
 bays-step m e h a =
     record {
-      four = four-after (m .setup) (m .bays) e (a .four);
       each =
-          λ b l. each-bay (λ x. BayAgrees x b (e ∷ h)) (m .setup) (m .bays) e b (a .four) l (λ at q. here (m .setup) e b h _ q (a .each b l))
+          λ b l. each-bay (λ x. BayAgrees x b (e ∷ h)) (m .setup) (m .bays) e b l (λ at q. here (m .setup) e b h _ q (a .each b l))
           (λ q. elsewhere e b h _ q (a .each b l)) (λ q. nowhere e b h _ q (marked b l)) (λ q. nowhere e b h _ q (a .each b l));
     }
   where
@@ -144,4 +123,4 @@ unheard b = record { present-is = refl; reading-is = refl }
 
 pub bays-power-on : (s : Setup) → BaysAgree (powerOn s .bays) []
 unfolding powerOn
-bays-power-on s = record { four = refl; each = λ b l. rw (empty-at s b l) (unheard b) }
+bays-power-on s = record { each = λ b l. rw (empty-at s b l) (unheard b) }

@@ -4,7 +4,6 @@ use mathlib.Core.Path.{_≡_, refl, sym, _∙_}
 use mathlib.Core.Bool.{Bool, true, false, not, cond, _&&_, _||_, true≢false, and-true, or-true}
 use mathlib.Core.List.{List}
 use lib.Dec.{ltb, eqb}
-use lib.ListN.{length}
 use borrow.Author.Tests.{ltb-true, le-ltb, eqb-true, not-true, not-false}
 use native.Mathlib.Omega.{arith}
 use Rattle.model.specs.declared.Setup.{Setup}
@@ -27,7 +26,7 @@ use Rattle.model.proofs.Bools.{choose, and-l, and-r, or-l, or-r, or-the
 use Rattle.model.proofs.Passes.{Passes}
 use Rattle.model.proofs.Induction.{along}
 use Rattle.model.proofs.Taking.{of-candidate, of-power, of-smb}
-use Rattle.model.proofs.Bays.{each-bay, four-after, empty-at, number-small}
+use Rattle.model.proofs.Bays.{each-bay, empty-at, number-small}
 
 -- 0 or one supported bay
 One : Setup → ℕ → Type 0
@@ -46,7 +45,6 @@ record Good (m : Machine) : Type 0 where
   next : One (m .setup) (m .selector .next)
   current-age : m .charger .current .age ≤ 175
   voltage-age : m .charger .voltage .age ≤ 175
-  four : length (m .bays) ≡ 4
   bays : Bayed (m .setup) (m .bays)
 
 good-accepted : (m : Machine) → Good m → badMachine m ≡ false
@@ -99,7 +97,7 @@ module _ (m : Machine) (e : Event) (p : Passes m e) (g : Good m) where
   bays-good : Bayed (m .setup) (baysAfter (m .setup) (m .bays) e)
   unfolding Bayed
   bays-good b l =
-      each-bay (λ x. strayBay (m .setup) b x ≡ false) (m .setup) (m .bays) e b (g .four) l (λ at q. here-good b (eqb-true _ _ q) at)
+      each-bay (λ x. strayBay (m .setup) b x ≡ false) (m .setup) (m .bays) e b l (λ at q. here-good b (eqb-true _ _ q) at)
       (λ _. g .bays b l) (λ _. ok-good (m .setup) b (wordOf e) (bayAt (m .bays) b) (g .bays b l)) (λ _. g .bays b l)
 
 -- nibbles: none, a candidate's, the written
@@ -167,7 +165,6 @@ module _ (m : Machine) (e : Event) (p : Passes m e) (g : Good m) where
         next = next-after;
         current-age = age-small _ _ _ _ (g .current-age);
         voltage-age = age-small _ _ _ _ (g .voltage-age);
-        four = four-after (m .setup) (m .bays) e (g .four);
         bays = bays-good m e p g;
       }
 
@@ -182,7 +179,6 @@ good-power-on s g =
       next = none-one s;
       current-age = omega arith;
       voltage-age = omega arith;
-      four = refl;
       bays = λ b l. rw (empty-at s b l);
     }
 

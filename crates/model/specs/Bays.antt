@@ -2,8 +2,8 @@
 use Prim.Native.Nat.{ℕ}
 use mathlib.Core.Bool.{Bool, true, false, not, _&&_}
 use mathlib.Core.List.{List, [], _∷_}
-use lib.Dec.{ltb, leb}
-use lib.ListN.{getD, set}
+use lib.Dec.{ltb, leb, eqb}
+use lib.ListN.{getD}
 use Rattle.model.specs.declared.Setup.{Setup}
 use Rattle.model.specs.declared.Reading.{Reading}
 use Rattle.model.specs.declared.Reading.the-variants.{Unread, Ohms}
@@ -70,18 +70,17 @@ bayAfter s e bay = record { present = presentAfter e bay; ok = okAfter e bay; lo
 abbrev pub okWritten : ℕ → ℕ → Bay → Bay
 okWritten w b bay = record { present = bay .present; ok = bay .present && okIn b w; low = bay .low; reading = bay .reading }
 
+-- four bays, each by its number
+abbrev pub fourBays : (ℕ → Bay) → List Bay
+fourBays bay = bay 0 ∷ bay 1 ∷ bay 2 ∷ bay 3 ∷ []
+
 -- SelectorPresets writes the OK mark of every bay
 unfoldable pub allOkWritten : ℕ → List Bay → List Bay
-allOkWritten w bays =
-    okWritten w 0 (bayAt bays 0)
-    ∷ okWritten w 1 (bayAt bays 1)
-    ∷ okWritten w 2 (bayAt bays 2)
-    ∷ okWritten w 3 (bayAt bays 3)
-    ∷ []
+allOkWritten w bays = fourBays (λ b. okWritten w b (bayAt bays b))
 
 -- an event at a bay changes that bay alone
 unfoldable pub baysAfter : Setup → List Bay → Event → List Bay
 baysAfter s bays e =
-    if atBay e then set bays (bayOf e) (bayAfter s e (bayAt bays (bayOf e)))
+    if atBay e then fourBays (λ b. if eqb (bayOf e) b then bayAfter s e (bayAt bays b) else bayAt bays b)
     else if is presetsWord e then allOkWritten (wordOf e) bays
     else bays

@@ -1,19 +1,24 @@
 -- The model's rules by bay are the same as the code's by mask.
-use Prim.Native.Nat.{ℕ, _%_, _^_}
+use Prim.Native.Nat.{ℕ, _-_, _%_, _^_}
 use mathlib.Core.Path.{_≡_, refl, sym, _∙_}
 use mathlib.Core.Bool.{Bool, true, false, not, cond, _&&_}
 use mathlib.Core.List.{List}
 use native.Mathlib.Omega.{arith}
+use lib.Dec.{eqb}
+use lib.Bits.{bitAnd}
+use borrow.Author.Tests.{eqb-true}
+use Rattle.model.proofs.Bools.{cond-same}
 use Rattle.model.specs.declared.Bay.{Bay}
 use Rattle.model.specs.declared.Machine.{Machine}
 use Rattle.model.specs.Words.{bit, nibble, named, bayNumber}
 use Rattle.model.specs.Bays.{emptyBay, bayAt, bayNamed, candidate}
 use Rattle.model.specs.Settling.{keptSmb, keptPower, firstOf, takesOver}
 use Rattle.model.specs.Reads.{presentNibble, okNibble, mayFollow, shownNext}
-use Rattle.words.specs.Masks.{four, among, firstIn}
+use Rattle.words.specs.Masks.{four, among, oneOf, firstIn}
+use Rattle.words.proofs.Below.{by-test}
 use Rattle.words.proofs.OneBit.{bay-nibble}
-use Rattle.words.proofs.Masks.{among-four, first-four}
-use Rattle.selector.specs.ByMask.{candidateNibble, followerNibble, keptIn, takenFrom}
+use Rattle.words.proofs.Masks.{among-four, first-four, and-four, not-four}
+use Rattle.selector.specs.ByMask.{lowNibble, candidateNibble, followerNibble, keptIn, takenFrom}
 
 -- a test of the bay that a nibble names, by the mask of that test
 of-named : (test : Bay → Bool) → test emptyBay ≡ false → (bays : List Bay) (n : ℕ) →
@@ -24,6 +29,11 @@ of-named test none bays n = among-four (λ b. test (bayAt bays b)) n ∙ go (nam
     go : (t : Bool) → (t && test (bayAt bays (bayNumber n))) ≡ test (cond t (bayAt bays (bayNumber n)) emptyBay)
     go true = refl
     go false = sym none
+
+-- 0 is kept as any other nibble of the mask
+pub kept-one : (mask n : ℕ) → cond (oneOf mask n) n 0 ≡ keptIn mask n
+unfolding keptIn
+kept-one mask n = by-test (eqb n 0) (λ q. rw (eqb-true n 0 q) (sym (cond-same (among mask 0) 0))) (λ q. rw q)
 
 module _ (bays : List Bay) where
   pub present-among : (n : ℕ) → among (presentNibble bays) n ≡ bayNamed bays n .present
@@ -48,6 +58,11 @@ module _ (bays : List Bay) where
           ≡ (cond t (bayAt bays (bayNumber n)) emptyBay .present && not (bit (bayNumber n) w))
       go true = refl
       go false = refl
+
+  -- present, OK and not low, as masks
+  pub candidates : bitAnd (bitAnd (presentNibble bays) (okNibble bays)) (15 - lowNibble bays) ≡ candidateNibble bays
+  unfolding presentNibble okNibble lowNibble candidateNibble candidate
+  candidates = rw (not-four, and-four, and-four)
 
   pub kept-smb : (n : ℕ) → keptIn (presentNibble bays) n ≡ keptSmb bays n
   unfolding keptIn keptSmb

@@ -8,6 +8,10 @@ use Rattle.model.specs.Bays.{bayAt, candidate}
 use Rattle.model.specs.Reads.{mayFollow}
 use Rattle.words.specs.Masks.{four, among, firstIn}
 
+-- the low marks: a bit for each bay
+unfoldable pub lowNibble : List Bay → ℕ
+lowNibble bays = four (bayAt bays 0 .low) (bayAt bays 1 .low) (bayAt bays 2 .low) (bayAt bays 3 .low)
+
 -- the candidates: a bit for each bay
 unfoldable pub candidateNibble : List Bay → ℕ
 candidateNibble bays = four (candidate (bayAt bays 0)) (candidate (bayAt bays 1)) (candidate (bayAt bays 2)) (candidate (bayAt bays 3))

@@ -4,46 +4,19 @@ use model::Machine;
 use model::Setup;
 ghost use mathlib.Core.Path.{_≡_};
 ghost use mathlib.Core.Bool.{not, _&&_};
+ghost use Prim.Native.Nat.{_≤_};
 ghost use lib.Dec.{eqb};
 ghost use Rattle.model.specs.declared.Event.the-variants as event;
 ghost use Rattle.model.specs.Words.{nextIn};
-ghost use Rattle.model.specs.Bays.{candidate, okWritten, allOkWritten};
+ghost use Rattle.model.specs.Bays.{okWritten, allOkWritten};
 ghost use Rattle.model.specs.SelectorRules.{written};
 ghost use Rattle.model.specs.Machines.{act};
 ghost use Rattle.model.specs.Settling as settling;
-ghost use Rattle.model.specs.Reads.{shownPower, presentNibble, stateShown, okNibble, shownNext, presetsShown, infoShown};
+ghost use Rattle.model.specs.Reads.{shownPower, stateShown, okNibble, shownNext, presetsShown, infoShown};
 ghost use Rattle.model.specs.Refusals.{oneBay, formed, stateFormed, namesBay, smbElsewhere, notUsable, sameBay};
 ghost use Rattle.words.specs.Masks.{among};
-ghost use Rattle.selector.specs.ByMask.{candidateNibble, followerNibble, keptIn, takenFrom};
+ghost use Rattle.selector.specs.ByMask.{lowNibble, candidateNibble, followerNibble, keptIn, takenFrom};
 ghost use Rattle.selector.specs.ByEvent.{keptCharge};
-
-fn is_candidate(bay: Bay) -> bool
-    ensures { λ r. ⌜ r ≡ candidate bay ⌝ }
-{
-    bay.present & bay.ok & !bay.low
-}
-
-fn candidate_nibble(bays: [Bay; 4]) -> u16
-    ensures { λ r. ⌜ r ≡ candidateNibble bays ⌝ }
-{
-    words::mask(
-        is_candidate(bays[0]),
-        is_candidate(bays[1]),
-        is_candidate(bays[2]),
-        is_candidate(bays[3]),
-    )
-}
-
-fn present_nibble(bays: [Bay; 4]) -> u16
-    ensures { λ r. ⌜ r ≡ presentNibble bays ⌝ }
-{
-    words::mask(
-        bays[0].present,
-        bays[1].present,
-        bays[2].present,
-        bays[3].present,
-    )
-}
 
 fn ok_nibble(bays: [Bay; 4]) -> u16
     ensures { λ r. ⌜ r ≡ okNibble bays ⌝ }
@@ -51,11 +24,24 @@ fn ok_nibble(bays: [Bay; 4]) -> u16
     words::mask(bays[0].ok, bays[1].ok, bays[2].ok, bays[3].ok)
 }
 
+fn low_nibble(bays: [Bay; 4]) -> u16
+    ensures { λ r. ⌜ (r ≡ lowNibble bays) × (r ≤ 15) ⌝ }
+{
+    words::mask(bays[0].low, bays[1].low, bays[2].low, bays[3].low)
+}
+
+// The bays that are candidates: present, OK and not low.
+fn candidate_nibble(bays: [Bay; 4]) -> u16
+    ensures { λ r. ⌜ r ≡ candidateNibble bays ⌝ }
+{
+    machine::present_nibble(bays) & ok_nibble(bays) & (15 - low_nibble(bays))
+}
+
 // A nibble that names a bay of the mask, else 0.
 fn keep_in(mask: u16, n: u16) -> u16
     ensures { λ r. ⌜ r ≡ keptIn mask n ⌝ }
 {
-    words::choose(words::is_among(mask, n), n, 0)
+    words::choose(words::is_one_of(mask, n), n, 0)
 }
 
 // The wanted bay if it is in the mask, else the mask's first by letter, else 0.
@@ -77,7 +63,7 @@ pub fn settle(m: Machine) -> Machine
     let smb = words::choose(
         unpowered & (power != 0),
         power,
-        keep_in(present_nibble(bays), m.selector.smb),
+        keep_in(machine::present_nibble(bays), m.selector.smb),
     );
     let mut n = m;
     n.selector.smb = smb;
@@ -127,7 +113,7 @@ pub fn is_not_usable(m: Machine, word: u16) -> bool
     ensures { λ r. ⌜ r ≡ notUsable m word ⌝ }
 {
     let bays = m.bays;
-    let present = present_nibble(bays);
+    let present = machine::present_nibble(bays);
     let s = words::nibble(word, 12);
     let p = words::nibble(word, 8);
     let c = words::nibble(word, 4);
@@ -193,7 +179,7 @@ fn keep_charge(m: Machine, word: u16) -> u16
     let bays = m.bays;
     let charge = m.selector.charge;
     words::choose(
-        words::is_among(present_nibble(bays), charge) & !words::is_among(word, charge),
+        words::is_among(machine::present_nibble(bays), charge) & !words::is_among(word, charge),
         0,
         charge,
     )
@@ -234,7 +220,7 @@ pub fn state_word(m: Machine) -> u16
         m.selector.smb,
         show_power(m),
         m.selector.charge,
-        present_nibble(bays),
+        machine::present_nibble(bays),
     )
 }
 

@@ -5,7 +5,6 @@ use native.Mathlib.Omega.{arith}
 use contract.Lifetimes.{Lfts}
 use borrow.Fn.Kinds.{Dens, resT, endedOf}
 use denote.Triple.Clauses.{AtExit}
-use Rattle.model.specs.Numbers.{numberOf}
 use Rattle.model.proofs.Numbers.{refusals-apart, steps-apart}
 use Rattle.shelf.specs.declared.Outputs.{Outputs}
 use Rattle.shelf.specs.declared.Outputs.the-variants.{Drive, Refused}

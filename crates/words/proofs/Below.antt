@@ -27,6 +27,10 @@ at test (suc n) t k h =
     (λ l. at test n (both-right (test n) (all test n) t) k l)
     (eq-or-lt-of-le (le-of-suc-le-suc h))
 
+-- the same for two numbers
+pub at-both : (test : ℕ → ℕ → Bool) (n : ℕ) → T (all (λ i. all (test i) n) n) → (i k : ℕ) → i < n → k < n → T (test i k)
+at-both test n t i k hi hk = at (test i) n (at (λ i. all (test i) n) n t i hi) k hk
+
 -- two truths are the same, as a test
 abbrev pub agree : Bool → Bool → Bool
 agree true b = b

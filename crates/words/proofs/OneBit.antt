@@ -26,7 +26,7 @@ bit-test n =
     let h : 16 ≤ n = ltb-false n 16 e in
     simp (e, ne-eqb n 1 (λ q. omega arith), ne-eqb n 2 (λ q. omega arith), ne-eqb n 4 (λ q. omega arith), ne-eqb n 8 (λ q. omega arith)))
 
-named-lt : (n : ℕ) → named n ≡ true → n < 16
+pub named-lt : (n : ℕ) → named n ≡ true → n < 16
 named-lt n e = by-test (ltb n 16) (λ q. ltb-true n 16 q) (λ q. absurd (false≢true (simp q at (bit-test n) ∙ e)))
 
 -- the bay's number by trailing zeros

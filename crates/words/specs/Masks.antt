@@ -1,6 +1,7 @@
 -- Masks: a nibble that says something of each bay at once.
 use Prim.Native.Nat.{ℕ, _+_}
-use mathlib.Core.Bool.{Bool, _&&_}
+use mathlib.Core.Bool.{Bool, _&&_, _||_}
+use lib.Dec.{eqb}
 use Rattle.model.specs.If.{if_then_else_}
 use Rattle.model.specs.Words.{bit, on, named, bayNumber}
 
@@ -11,6 +12,10 @@ four a b c d = on 0 a + on 1 b + on 2 c + on 3 d
 -- the nibble n names a bay whose bit is set in the mask
 unfoldable pub among : ℕ → ℕ → Bool
 among mask n = named n && bit (bayNumber n) mask
+
+-- the nibble n is 0 or names such a bay
+abbrev pub oneOf : ℕ → ℕ → Bool
+oneOf mask n = eqb n 0 || among mask n
 
 -- the nibble of the first bay by letter whose bit is set, 0 if there is none
 unfoldable pub firstIn : ℕ → ℕ

@@ -3,7 +3,7 @@ ghost use mathlib.Core.Path.{_≡_};
 ghost use mathlib.Core.Bool.{cond};
 ghost use Prim.Native.Nat.{_≤_};
 ghost use Rattle.model.specs.Words as words;
-ghost use Rattle.words.specs.Masks.{four, among, firstIn};
+ghost use Rattle.words.specs.Masks.{four, among, oneOf, firstIn};
 
 // Bit k of a word.
 pub fn bit(word: u16, k: u16) -> bool
@@ -79,18 +79,17 @@ pub fn flag(on: bool, value: u16) -> u16
     if on { value } else { 0 }
 }
 
-// A mask: bit b says what holds of bay b.
-pub fn mask(a: bool, b: bool, c: bool, d: bool) -> u16
-    ensures { λ r. ⌜ r ≡ four a b c d ⌝ }
+fn one(on: bool) -> u16
+    ensures { λ r. ⌜ (r ≡ cond on 1 0) × (r ≤ 1) ⌝ }
 {
-    flag(a, 1) + flag(b, 2) + flag(c, 4) + flag(d, 8)
+    on as u16
 }
 
-// Whether the nibble n names a bay whose bit is set in the mask.
-pub fn is_among(mask: u16, n: u16) -> bool
-    ensures { λ r. ⌜ r ≡ among mask n ⌝ }
+// A mask: bit b says what holds of bay b.
+pub fn mask(a: bool, b: bool, c: bool, d: bool) -> u16
+    ensures { λ r. ⌜ (r ≡ four a b c d) × (r ≤ 15) ⌝ }
 {
-    is_named(n) & (mask & n != 0)
+    one(a) + one(b) * 2 + one(c) * 4 + one(d) * 8
 }
 
 // The nibble of a mask's first bay by letter, 0 if it has none.
@@ -99,4 +98,18 @@ pub fn first_in(mask: u16) -> u16
 {
     let m = mask & 0xF;
     m & (16 - m)
+}
+
+// Whether a nibble is 0 or names a bay whose bit is set in the mask.
+pub fn is_one_of(mask: u16, n: u16) -> bool
+    ensures { λ r. ⌜ r ≡ oneOf mask n ⌝ }
+{
+    mask & first_in(n) == n
+}
+
+// Whether a nibble names a bay whose bit is set in the mask.
+pub fn is_among(mask: u16, n: u16) -> bool
+    ensures { λ r. ⌜ r ≡ among mask n ⌝ }
+{
+    (n != 0) & is_one_of(mask, n)
 }

@@ -12,7 +12,7 @@ returns c =
     let c3 = c2 .before in
     let c4 = c3 .before in
     let c5 = c4 .before in
-    simp (c .mask .ensures, c1 .may-follow4 .ensures, c2 .may-follow3 .ensures, c3 .may-follow2 .ensures, c4 .may-follow .ensures, c5 .candidate-nibble .ensures, candidate-among)
+    simp (c .mask .ensures .0, c1 .may-follow4 .ensures, c2 .may-follow3 .ensures, c3 .may-follow2 .ensures, c4 .may-follow .ensures, c5 .candidate-nibble .ensures, candidate-among)
 
 pub follower-nibble-spec : {M : Type 1} → statement M
 follower-nibble-spec =

@@ -6,7 +6,7 @@ use Rattle.selector.proofs.ok_nibble.Tie as tie
 
 returns : tie.Need-returns
 unfolding okNibble bayAt
-returns c = simp (c .mask .ensures)
+returns c = simp (c .mask .ensures .0)
 
 pub ok-nibble-spec : {M : Type 1} → statement M
 ok-nibble-spec =

@@ -1,0 +1,37 @@
+-- The supported bays and the bays that hold a pack, by their nibbles.
+use Prim.Native.Nat.{ℕ, _≤_, _<_}
+use mathlib.Core.Path.{_≡_}
+use mathlib.Core.Bool.{false}
+use mathlib.Core.List.{List}
+use native.Mathlib.Nat.{div-eq-of-lt, lt-of-lt-of-le}
+use lib.Dec.{ltb}
+use lib.Pow.{pow-mono}
+use borrow.Author.Tests.{ltb-true, ltb-false}
+use Rattle.model.specs.declared.Bay.{Bay}
+use Rattle.model.specs.declared.Setup.{Setup}
+use Rattle.model.specs.Words.{bit}
+use Rattle.model.specs.Bays.{bayAt}
+use Rattle.model.specs.Reads.{presentNibble}
+use Rattle.model.specs.Refusals.{supports, oneBay}
+use Rattle.words.specs.Masks.{among, oneOf}
+use Rattle.words.proofs.Below.{by-test}
+use Rattle.words.proofs.OneBit.{bay-ltb}
+use Rattle.words.proofs.Masks.{bit-four, four-lt}
+use Rattle.machine.specs.ByNumber.{bayIn}
+
+-- 0 or one supported bay
+pub one-supported : (s : Setup) (n : ℕ) → oneOf (s .supported) n ≡ oneBay s n
+unfolding oneBay supports among
+one-supported s n = simp bay-ltb
+
+-- a nibble has no bit past its four
+past-four : (n b : ℕ) → n < 16 → 4 ≤ b → bit b n ≡ false
+unfolding bit
+past-four n b l h = rw (div-eq-of-lt (lt-of-lt-of-le l (pow-mono h)))
+
+-- bay b holds a pack
+pub present-in : (bays : List Bay) (b : ℕ) → bit b (presentNibble bays) ≡ bayIn bays b .present
+unfolding presentNibble bayIn
+present-in bays b =
+    by-test (ltb b 4) (λ q. rw q (bit-four (λ b. bayAt bays b .present) b (ltb-true b 4 q)))
+    (λ q. rw q (past-four (presentNibble bays) b (four-lt (bayAt bays 0 .present) (bayAt bays 1 .present) (bayAt bays 2 .present) (bayAt bays 3 .present)) (ltb-false b 4 q)))
