@@ -1,24 +1,22 @@
 -- The model's rules, by register, at what happens at a bay and to AC.
-use Prim.Native.Nat.{ℕ, _<_}
+use Prim.Native.Nat.{ℕ}
 use mathlib.Core.Path.{_≡_, refl}
-use mathlib.Core.List.{List}
 use mathlib.Core.Bool.{Bool, true, false, not, cond, _&&_, _||_, and-false, or-false}
-use lib.Dec.{ltb, eqb, lit<}
-use borrow.Author.Tests.{eqb-true, lt-ltb}
+use lib.Dec.{eqb}
 use Rattle.model.specs.declared.Bay.{Bay}
+use Rattle.model.specs.declared.Setup.{Setup}
 use Rattle.model.specs.declared.Machine.{Machine}
 use Rattle.model.specs.declared.Event.the-variants.{Insertion, Removal, Signal, Terminal, Ac}
 use Rattle.model.specs.Words.{names}
-use Rattle.model.specs.Bays.{emptyBay, bayAt, fourBays, baysAfter}
+use Rattle.model.specs.Bays.{emptyBay, bayAt, bayAfter, fourBays, baysAfter}
 use Rattle.model.specs.Events.{kindOf, kindNumber, is, atBay, swaps, swapsAt, saysPresent, resets, connects}
 use Rattle.model.specs.SelectorRules.{acAfter, acArrives, acGoes, smbAfter, powerAfter, dropsCharge, chargeAfter, nextAfter, noticeAfter}
 use Rattle.model.specs.ChargerRules.{fresh}
 use Rattle.model.specs.Machines.{withBays, act}
 use Rattle.model.proofs.Computes.{computes}
-use Rattle.machine.specs.ByNumber.{bayIn, putBay}
 use Rattle.charger.proofs.ByEvent.{same}
 use Rattle.charger.proofs.Afresh.{fresh-or-kept}
-use Rattle.bays.specs.ByEvent.{newPack, swapped, signalRead, terminalRead, acSet}
+use Rattle.bays.specs.ByEvent.{newPack, withBay, swapped, signalRead, terminalRead, acSet}
 
 -- a pack put in or pulled
 
@@ -31,38 +29,36 @@ unfolding computes
 fresh-out m b = simp (same, or-false)
 
 pub on-insertion : (m : Machine) (b : ℕ) → act m (Insertion b) ≡ swapped m b newPack
-unfolding computes swapped putBay
+unfolding computes swapped withBay
 on-insertion m b = simp (fresh-in, fresh-or-kept (Insertion b) (refl, refl, refl, refl, refl))
 
 pub on-removal : (m : Machine) (b : ℕ) → act m (Removal b) ≡ swapped m b emptyBay
-unfolding computes swapped putBay
+unfolding computes swapped withBay
 on-removal m b = simp (fresh-out, fresh-or-kept (Removal b) (refl, refl, refl, refl, refl))
 
 -- a pack's signal and terminal voltage
 
--- a bay that was found by its number is the one that is put back
-found : (bays : List Bay) (b k : ℕ) (read : Bay → Bay) → k < 4 →
-    cond (eqb b k) (read (bayIn bays b)) (bayAt bays k) ≡ cond (eqb b k) (read (bayAt bays k)) (bayAt bays k)
-unfolding bayIn
-found bays b k read l = go (eqb b k) refl
-  where
-    go : (t : Bool) → eqb b k ≡ t → cond t (read (cond (ltb b 4) (bayAt bays b) emptyBay)) (bayAt bays k) ≡ cond t (read (bayAt bays k)) (bayAt bays k)
-    go true q = rw (eqb-true b k q, lt-ltb k 4 l)
-    go false q = refl
+-- each bay, by whether the event is here
 
-at-number : (bays : List Bay) (b : ℕ) (read : Bay → Bay) →
-    putBay bays b (read (bayIn bays b)) ≡ fourBays (λ k. cond (eqb b k) (read (bayAt bays k)) (bayAt bays k))
-unfolding putBay
-at-number bays b read = rw (found bays b 0 read (lit< tt), found bays b 1 read (lit< tt), found bays b 2 read (lit< tt), found bays b 3 read (lit< tt))
-
-pub on-signal : (m : Machine) (b ohms : ℕ) → act m (Signal b ohms) ≡ withBays m (putBay (m .bays) b (signalRead (bayIn (m .bays) b) ohms))
+signal-here : (here : Bool) (s : Setup) (b ohms : ℕ) (bay : Bay) → cond here (bayAfter s (Signal b ohms) bay) bay ≡ signalRead here bay ohms
 unfolding computes
-on-signal m b ohms = rw (at-number (m .bays) b (λ bay. signalRead bay ohms)) (simp (same, and-false))
+signal-here true s b ohms bay = refl
+signal-here false s b ohms bay = refl
+
+terminal-here : (here : Bool) (s : Setup) (b v : ℕ) (bay : Bay) → cond here (bayAfter s (Terminal b v) bay) bay ≡ terminalRead here s bay v
+unfolding computes
+terminal-here true s b v bay = refl
+terminal-here false s b v bay = refl
+
+pub on-signal : (m : Machine) (b ohms : ℕ) →
+    act m (Signal b ohms) ≡ withBays m (fourBays (λ k. signalRead (eqb b k) (bayAt (m .bays) k) ohms))
+unfolding computes
+on-signal m b ohms = simp (same, and-false, signal-here)
 
 pub on-terminal : (m : Machine) (b v : ℕ) →
-    act m (Terminal b v) ≡ withBays m (putBay (m .bays) b (terminalRead (m .setup) (bayIn (m .bays) b) v))
+    act m (Terminal b v) ≡ withBays m (fourBays (λ k. terminalRead (eqb b k) (m .setup) (bayAt (m .bays) k) v))
 unfolding computes
-on-terminal m b v = rw (at-number (m .bays) b (λ bay. terminalRead (m .setup) bay v)) (simp (same, and-false))
+on-terminal m b v = simp (same, and-false, terminal-here)
 
 -- AC
 

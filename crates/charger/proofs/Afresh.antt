@@ -1,6 +1,6 @@
 -- An event that is neither a word of the charger nor a tick: the charger starts afresh, or stays.
 use mathlib.Core.Path.{_≡_}
-use mathlib.Core.Bool.{Bool, true, false}
+use mathlib.Core.Bool.{Bool, false}
 use Rattle.model.specs.declared.Charger.{Charger}
 use Rattle.model.specs.declared.Event.{Event}
 use Rattle.model.specs.Events.{currentWord, voltageWord, alarmWord, modeWord, tick, is, resets, zeroes, alarms}
@@ -12,5 +12,4 @@ Quiet e = (is currentWord e ≡ false) × (is voltageWord e ≡ false) × (is al
 
 pub fresh-or-kept : (e : Event) → Quiet e → (start : Bool) (c : Charger) → chargerAfter start c e ≡ freshIf start c
 unfolding requestAfter ageAfter markAfter rewritesBoth holdAfter inhibitAfter resets zeroes alarms freshIf
-fresh-or-kept e q true c = simp (q .3)
-fresh-or-kept e q false c = simp (q .0, q .1, q .2, q .3, q .4)
+fresh-or-kept e q start c = simp (q .0, q .1, q .2, q .3, q .4)

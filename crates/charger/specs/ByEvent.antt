@@ -7,15 +7,20 @@ use Rattle.model.specs.declared.Charger.{Charger}
 use Rattle.model.specs.If.{if_then_else_}
 use Rattle.model.specs.Words.{bit, alarming}
 use Rattle.model.specs.ChargerRules.{older}
-use Rattle.model.specs.Machines.{noRequest}
 
--- a fresh start: no request, no hold, and that inhibit state
-abbrev pub freshened : Bool → Charger
-freshened inhibit = record { current = noRequest; voltage = noRequest; hold = false; inhibit = inhibit }
+-- a request after an event that is a fresh start or is none
+abbrev pub droppedIf : Bool → Request → Request
+droppedIf start r = record { word = if start then 0 else r .word; age = if start then 0 else r .age; mark = if start then false else r .mark }
 
--- after an event that is a fresh start or is none; the inhibit state stays
+-- a charger after such an event; the inhibit state stays
 unfoldable pub freshIf : Bool → Charger → Charger
-freshIf start c = if start then freshened (c .inhibit) else c
+freshIf start c =
+    record {
+      current = droppedIf start (c .current);
+      voltage = droppedIf start (c .voltage);
+      hold = if start then false else c .hold;
+      inhibit = c .inhibit;
+    }
 
 -- 0x14, 0x15: a request that was just written
 abbrev pub asked : ℕ → Request
@@ -53,5 +58,9 @@ zeroed on r = record { word = if on then 0 else r .word; age = r .age; mark = r 
 -- 0x12: POR_RESET first
 unfoldable pub modeSet : Charger → ℕ → Charger
 modeSet c w =
-    if bit 2 w then freshened false
-    else record { current = zeroed (bit 3 w) (c .current); voltage = zeroed (bit 3 w) (c .voltage); hold = c .hold; inhibit = bit 0 w }
+    record {
+      current = droppedIf (bit 2 w) (zeroed (bit 3 w) (c .current));
+      voltage = droppedIf (bit 2 w) (zeroed (bit 3 w) (c .voltage));
+      hold = if bit 2 w then false else c .hold;
+      inhibit = if bit 2 w then false else bit 0 w;
+    }

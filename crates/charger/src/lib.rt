@@ -9,30 +9,18 @@ ghost use mathlib.Core.Path.{_≡_};
 ghost use Prim.Native.Nat.{_≤_};
 ghost use Rattle.model.specs.declared.Event.the-variants as event;
 ghost use Rattle.model.specs.ChargerRules as rules;
-ghost use Rattle.model.specs.Machines.{noRequest, act};
+ghost use Rattle.model.specs.Machines.{act};
 ghost use Rattle.model.specs.Reads.{charging, output, aboveLargest, signalBits, statusWord};
-ghost use Rattle.charger.specs.ByEvent.{freshened, freshIf, asked, currentSet, voltageSet, remarked, alarmSet, aged, ticked, zeroed, modeSet};
+ghost use Rattle.charger.specs.ByEvent.{droppedIf, freshIf, asked, currentSet, voltageSet, remarked, alarmSet, aged, ticked, zeroed, modeSet};
 
-fn no_request() -> Request
-    ensures { λ r. ⌜ r ≡ noRequest ⌝ }
+// A request after an event that is a fresh start or is none.
+fn drop_if(start: bool, q: Request) -> Request
+    ensures { λ r. ⌜ r ≡ droppedIf start q ⌝ }
 {
     Request {
-        word: 0,
-        age: 0,
-        mark: false,
-    }
-}
-
-// A charger afresh: no request, no hold.
-fn fresh(inhibit: bool) -> Charger
-    ensures { λ r. ⌜ r ≡ freshened inhibit ⌝ }
-{
-    let none = no_request();
-    Charger {
-        current: none,
-        voltage: none,
-        hold: false,
-        inhibit: inhibit,
+        word: words::choose(start, 0, q.word),
+        age: words::choose(start, 0, q.age),
+        mark: words::choose_bool(start, false, q.mark),
     }
 }
 
@@ -40,7 +28,23 @@ fn fresh(inhibit: bool) -> Charger
 pub fn fresh_if(start: bool, c: Charger) -> Charger
     ensures { λ r. ⌜ r ≡ freshIf start c ⌝ }
 {
-    if start { fresh(c.inhibit) } else { c }
+    Charger {
+        current: drop_if(start, c.current),
+        voltage: drop_if(start, c.voltage),
+        hold: words::choose_bool(start, false, c.hold),
+        inhibit: c.inhibit,
+    }
+}
+
+// A request as it stands, field by field: copied whole it would not stay in registers.
+fn same(q: Request) -> Request
+    ensures { λ r. ⌜ r ≡ q ⌝ }
+{
+    Request {
+        word: q.word,
+        age: q.age,
+        mark: q.mark,
+    }
 }
 
 fn ask(word: u16) -> Request
@@ -56,38 +60,45 @@ fn ask(word: u16) -> Request
 fn take_current(c: Charger, word: u16) -> Charger
     ensures { λ r. ⌜ r ≡ currentSet c word ⌝ }
 {
-    let mut n = c;
-    n.current = ask(word);
-    n.hold = words::choose_bool(c.voltage.mark, false, c.hold);
-    n
+    Charger {
+        current: ask(word),
+        voltage: same(c.voltage),
+        hold: words::choose_bool(c.voltage.mark, false, c.hold),
+        inhibit: c.inhibit,
+    }
 }
 
 fn take_voltage(c: Charger, word: u16) -> Charger
     ensures { λ r. ⌜ r ≡ voltageSet c word ⌝ }
 {
-    let mut n = c;
-    n.voltage = ask(word);
-    n.hold = words::choose_bool(c.current.mark, false, c.hold);
-    n
+    Charger {
+        current: same(c.current),
+        voltage: ask(word),
+        hold: words::choose_bool(c.current.mark, false, c.hold),
+        inhibit: c.inhibit,
+    }
 }
 
 fn remark(alarm: bool, q: Request) -> Request
     ensures { λ r. ⌜ r ≡ remarked alarm q ⌝ }
 {
-    let mut n = q;
-    n.mark = words::choose_bool(alarm, false, q.mark);
-    n
+    Request {
+        word: q.word,
+        age: q.age,
+        mark: words::choose_bool(alarm, false, q.mark),
+    }
 }
 
 fn take_alarm(c: Charger, word: u16) -> Charger
     ensures { λ r. ⌜ r ≡ alarmSet c word ⌝ }
 {
     let alarm = words::is_alarm(word);
-    let mut n = c;
-    n.current = remark(alarm, c.current);
-    n.voltage = remark(alarm, c.voltage);
-    n.hold = alarm;
-    n
+    Charger {
+        current: remark(alarm, c.current),
+        voltage: remark(alarm, c.voltage),
+        hold: alarm,
+        inhibit: c.inhibit,
+    }
 }
 
 fn older(age: u16) -> u16
@@ -110,33 +121,35 @@ fn age_one(q: Request) -> Request
 fn age_both(c: Charger) -> Charger
     ensures { λ r. ⌜ r ≡ ticked c ⌝ }
 {
-    let mut n = c;
-    n.current = age_one(c.current);
-    n.voltage = age_one(c.voltage);
-    n
+    Charger {
+        current: age_one(c.current),
+        voltage: age_one(c.voltage),
+        hold: c.hold,
+        inhibit: c.inhibit,
+    }
 }
 
 fn zero(on: bool, q: Request) -> Request
     ensures { λ r. ⌜ r ≡ zeroed on q ⌝ }
 {
-    let mut n = q;
-    n.word = words::choose(on, 0, q.word);
-    n
+    Request {
+        word: words::choose(on, 0, q.word),
+        age: q.age,
+        mark: q.mark,
+    }
 }
 
 // POR_RESET is looked at first: a fresh start, and no inhibit.
 fn take_mode(c: Charger, word: u16) -> Charger
     ensures { λ r. ⌜ r ≡ modeSet c word ⌝ }
 {
-    if words::bit(word, 2) {
-        fresh(false)
-    } else {
-        let on = words::bit(word, 3);
-        let mut n = c;
-        n.current = zero(on, c.current);
-        n.voltage = zero(on, c.voltage);
-        n.inhibit = words::bit(word, 0);
-        n
+    let reset = words::bit(word, 2);
+    let on = words::bit(word, 3);
+    Charger {
+        current: drop_if(reset, zero(on, c.current)),
+        voltage: drop_if(reset, zero(on, c.voltage)),
+        hold: words::choose_bool(reset, false, c.hold),
+        inhibit: words::choose_bool(reset, false, words::bit(word, 0)),
     }
 }
 

@@ -6,12 +6,11 @@ use model::Machine;
 use model::Reading;
 use model::Setup;
 ghost use mathlib.Core.Path.{_≡_};
-ghost use mathlib.Core.Bool.{cond};
 ghost use Rattle.model.specs.Bays.{emptyBay, bayNamed};
 ghost use Rattle.model.specs.Machines.{withBays, withCharger, withNotice};
 ghost use Rattle.model.specs.Reads.{presentNibble};
 ghost use Rattle.model.specs.Refusals.{supports, oneBay, goodLimit, goodSetup, wasRead, strayBay, strayBays, strayNibble, overAge, badMachine};
-ghost use Rattle.machine.specs.ByNumber.{bayIn, putBay};
+ghost use Rattle.machine.specs.ByNumber.{bayIn};
 
 fn is_good_limit(l: Limit) -> bool
     ensures { λ r. ⌜ r ≡ goodLimit l ⌝ }
@@ -128,23 +127,6 @@ pub fn named_bay(bays: [Bay; 4], n: u16) -> Bay
     } else {
         empty_bay()
     }
-}
-
-fn choose_bay(c: bool, a: Bay, b: Bay) -> Bay
-    ensures { λ r. ⌜ r ≡ cond c a b ⌝ }
-{
-    if c { a } else { b }
-}
-
-// The bays with another at number b, all as they are where there is no such bay.
-pub fn put_bay(bays: [Bay; 4], b: u8, bay: Bay) -> [Bay; 4]
-    ensures { λ r. ⌜ r ≡ putBay bays b bay ⌝ }
-{
-    let first = choose_bay(b == 0, bay, bays[0]);
-    let second = choose_bay(b == 1, bay, bays[1]);
-    let third = choose_bay(b == 2, bay, bays[2]);
-    let fourth = choose_bay(b == 3, bay, bays[3]);
-    [first, second, third, fourth]
 }
 
 // The bays that hold a pack, as a mask.

@@ -1,6 +1,7 @@
 // The selector's words, what is usable, and the three steps that settle a machine.
 use model::Bay;
 use model::Machine;
+use model::Selector;
 use model::Setup;
 ghost use mathlib.Core.Path.{_≡_};
 ghost use mathlib.Core.Bool.{not, _&&_};
@@ -65,9 +66,14 @@ pub fn settle(m: Machine) -> Machine
         power,
         keep_in(machine::present_nibble(bays), m.selector.smb),
     );
+    let selector = Selector {
+        smb: smb,
+        power: power,
+        charge: m.selector.charge,
+        next: m.selector.next,
+    };
     let mut n = m;
-    n.selector.smb = smb;
-    n.selector.power = power;
+    n.selector = selector;
     n.notice = m.notice | (power != m.selector.power);
     n
 }
@@ -146,11 +152,15 @@ pub fn set_state(m: Machine, word: u16) -> Machine
     let smb = write_over(words::nibble(word, 12), m.selector.smb);
     let power = write_over(words::nibble(word, 8), m.selector.power);
     let charge = write_over(words::nibble(word, 4), m.selector.charge);
+    let selector = Selector {
+        smb: smb,
+        power: power,
+        charge: charge,
+        next: m.selector.next,
+    };
     let mut n = m;
     n.charger = charger::fresh_if(charge != m.selector.charge, m.charger);
-    n.selector.smb = smb;
-    n.selector.power = power;
-    n.selector.charge = charge;
+    n.selector = selector;
     n
 }
 
@@ -192,10 +202,15 @@ pub fn set_presets(m: Machine, word: u16) -> Machine
     let bays = m.bays;
     let charge = keep_charge(m, word);
     let next = words::nibble(word, 4);
+    let selector = Selector {
+        smb: m.selector.smb,
+        power: m.selector.power,
+        charge: charge,
+        next: next,
+    };
     let mut n = machine::with_bays(m, mark_bays(bays, word));
     n.charger = charger::fresh_if(charge != m.selector.charge, m.charger);
-    n.selector.charge = charge;
-    n.selector.next = next;
+    n.selector = selector;
     n
 }
 

@@ -4,11 +4,11 @@ use Rattle.charger.proofs.fresh_if.Tie as tie
 
 returns : tie.Need-returns
 unfolding freshIf
-returns c = simp (c .fresh .ensures, c .before .if1 .taken)
-
-returns-2 : tie.Need-returns-2
-unfolding freshIf
-returns-2 c = simp (c .if1 .left)
+returns c =
+    let c1 = c .before in
+    let c2 = c1 .before in
+    simp (c .choose-bool .ensures, c1 .drop-if2 .ensures, c2 .drop-if .ensures)
 
 pub fresh-if-spec : {M : Type 1} → statement M
-fresh-if-spec = tie.close (tie.spec (λ c κs. tt) returns returns-2)
+fresh-if-spec =
+    tie.close (tie.spec (λ c κs. tt) (λ c κs. tt) (λ c κs. tt) returns)

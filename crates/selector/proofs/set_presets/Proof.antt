@@ -7,11 +7,10 @@ returns : tie.Need-returns
 unfolding presetsSet
 returns c =
     let c2 = c .before .before in
-    let c4 = c2 .before .before in
+    let c3 = c2 .before in
+    let c4 = c3 .before in
     let c5 = c4 .before in
-    let c6 = c5 .before in
-    let c7 = c6 .before in
-    simp (c2 .fresh-if .ensures, c4 .with-bays .ensures, c5 .mark-bays .ensures, c6 .nibble .ensures .0, c7 .keep-charge .ensures, on-presets)
+    simp (c .fresh-if .ensures, c2 .with-bays .ensures, c3 .mark-bays .ensures, c4 .nibble .ensures .0, c5 .keep-charge .ensures, on-presets)
 
 pub set-presets-spec : {M : Type 1} → statement M
 set-presets-spec =

@@ -1,11 +1,11 @@
 use Rattle.model.specs.Bays.{bayAt}
-use Rattle.machine.specs.ByNumber.{putBay}
+use Rattle.bays.specs.ByEvent.{withBay}
 use borrow.Author.Needs.{needs}
-use Rattle.machine.proofs.put_bay.Statement.{statement}
-use Rattle.machine.proofs.put_bay.Tie as tie
+use Rattle.bays.proofs.put_bay.Statement.{statement}
+use Rattle.bays.proofs.put_bay.Tie as tie
 
 returns : tie.Need-returns
-unfolding putBay bayAt
+unfolding withBay bayAt
 returns c =
     let c2 = c .before .before in
     let c4 = c2 .before .before in
