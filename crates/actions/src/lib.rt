@@ -33,6 +33,18 @@ pub enum Action {
     Refuse(Refusal),
 }
 
+// Who sends a word: a host that writes, a host that reads, the CHARGE bay while it holds a pack, any other bay.
+const HOST_WRITES: u8 = 0;
+
+const HOST_READS: u8 = 1;
+
+const CHARGE_BAY: u8 = 2;
+
+const OTHER_BAY: u8 = 3;
+
+// The charger's address, to which bays send their words.
+const CHARGER: u8 = 0x12;
+
 // Sender, address and code in one number.
 fn key_of(sender: u8, address: u8, code: u8) -> u32
     ensures { λ r. ⌜ r ≡ keyOf sender address code ⌝ }
@@ -40,9 +52,8 @@ fn key_of(sender: u8, address: u8, code: u8) -> u32
     (sender as u32) * 65536 + (address as u32) * 256 + (code as u32)
 }
 
-// The one decision over sender, address and code: the register's action, or refusal 3. Senders: 0 a host that writes, 1 a
-// host that reads, 2 the CHARGE bay while it holds a pack, 3 any other bay, whose word gets refusal 4 where 3 does not come
-// first.
+// The one decision over sender, address and code: the register's action, or refusal 3. A word that exists gets refusal 4 from
+// another bay than the CHARGE bay.
 fn choose(sender: u8, address: u8, code: u8, word: u16) -> Action
     ensures { λ r. ⌜ r ≡ chosen sender address code word ⌝ }
 {
@@ -73,9 +84,9 @@ fn sender_of(m: Machine, b: u8) -> u8
 {
     let bays = m.bays;
     if machine::is_present(bays, b) & words::names(m.selector.charge, b) {
-        2
+        CHARGE_BAY
     } else {
-        3
+        OTHER_BAY
     }
 }
 
@@ -84,7 +95,7 @@ fn from_bay(m: Machine, b: u8, code: u8, word: u16) -> Action
     ensures { λ r. ⌜ r ≡ fromBay m b code word ⌝ }
 {
     if machine::is_supported(m.setup, b) {
-        choose(sender_of(m, b), 0x12, code, word)
+        choose(sender_of(m, b), CHARGER, code, word)
     } else {
         Action::Refuse(Refusal::UnsupportedBay)
     }
@@ -116,8 +127,8 @@ pub fn decide(m: Machine, e: Event) -> Action
             address,
             code,
             word,
-        } => choose(0, address, code, word),
-        Event::HostRead { address, code } => choose(1, address, code, 0),
+        } => choose(HOST_WRITES, address, code, word),
+        Event::HostRead { address, code } => choose(HOST_READS, address, code, 0),
         Event::BayWord { bay, code, word } => from_bay(m, bay, code, word),
         Event::Insertion { bay } => at_bay(m, bay, false, Action::Insert(bay)),
         Event::Removal { bay } => at_bay(m, bay, true, Action::Remove(bay)),

@@ -37,13 +37,13 @@ pub fn fresh_if(start: bool, c: Charger) -> Charger
 }
 
 // A request as it stands, field by field: copied whole it would not stay in registers.
-fn same(q: Request) -> Request
-    ensures { λ r. ⌜ r ≡ q ⌝ }
+fn same(kept: Request) -> Request
+    ensures { λ r. ⌜ r ≡ kept ⌝ }
 {
     Request {
-        word: q.word,
-        age: q.age,
-        mark: q.mark,
+        word: kept.word,
+        age: kept.age,
+        mark: kept.mark,
     }
 }
 

@@ -36,7 +36,7 @@ pub fn is_supported(s: Setup, b: u8) -> bool
     (b < 4) & words::bit(s.supported, b as u16)
 }
 
-// Whether a nibble is 0 or one supported bay.
+// Whether a nibble of a word is 0 or one supported bay.
 pub fn is_one_bay(s: Setup, n: u16) -> bool
     ensures { λ r. ⌜ r ≡ oneBay s n ⌝ }
 {
@@ -69,7 +69,7 @@ fn are_stray_bays(s: Setup, bays: [Bay; 4]) -> bool
         | is_stray_bay(s, 3, bays[3])
 }
 
-// Whether a nibble of the selector is neither 0 nor one supported bay.
+// Whether a nibble of the selector is neither 0 nor one supported bay: by its lowest bit, since it is asked at every step.
 fn has_stray_nibble(m: Machine) -> bool
     ensures { λ r. ⌜ r ≡ strayNibble m ⌝ }
 {

@@ -19,6 +19,15 @@ ghost use Rattle.words.specs.Masks.{among};
 ghost use Rattle.selector.specs.ByMask.{lowNibble, candidateNibble, followerNibble, keptIn, takenFrom};
 ghost use Rattle.selector.specs.ByEvent.{keptCharge};
 
+// The lowest bit of each nibble of a SelectorState word that is written, and of USE_NEXT in a SelectorPresets word.
+const SMB: u16 = 12;
+
+const POWER_BY: u16 = 8;
+
+const CHARGE: u16 = 4;
+
+const USE_NEXT: u16 = 4;
+
 fn ok_nibble(bays: [Bay; 4]) -> u16
     ensures { λ r. ⌜ r ≡ okNibble bays ⌝ }
 {
@@ -88,16 +97,16 @@ fn is_formed(s: Setup, n: u16) -> bool
 pub fn is_state_formed(s: Setup, word: u16) -> bool
     ensures { λ r. ⌜ r ≡ stateFormed s word ⌝ }
 {
-    is_formed(s, words::nibble(word, 12))
-        & is_formed(s, words::nibble(word, 8))
-        & is_formed(s, words::nibble(word, 4))
+    is_formed(s, words::nibble(word, SMB))
+        & is_formed(s, words::nibble(word, POWER_BY))
+        & is_formed(s, words::nibble(word, CHARGE))
 }
 
-// Whether each nibble of a SelectorPresets word that is looked at is 0 or one supported bay: refusal 5 where not.
+// Whether USE_NEXT of a SelectorPresets word is 0 or one supported bay: refusal 5 where not.
 pub fn is_presets_formed(s: Setup, word: u16) -> bool
     ensures { λ r. ⌜ r ≡ oneBay s (nextIn word) ⌝ }
 {
-    machine::is_one_bay(s, words::nibble(word, 4))
+    machine::is_one_bay(s, words::nibble(word, USE_NEXT))
 }
 
 fn names_bay(n: u16) -> bool
@@ -110,8 +119,8 @@ fn names_bay(n: u16) -> bool
 pub fn is_smb_elsewhere(word: u16) -> bool
     ensures { λ r. ⌜ r ≡ smbElsewhere word ⌝ }
 {
-    let p = words::nibble(word, 8);
-    names_bay(p) & (words::nibble(word, 12) != p)
+    let p = words::nibble(word, POWER_BY);
+    names_bay(p) & (words::nibble(word, SMB) != p)
 }
 
 // Whether a bay that the word names, or AC, is not usable: refusal 7.
@@ -120,9 +129,9 @@ pub fn is_not_usable(m: Machine, word: u16) -> bool
 {
     let bays = m.bays;
     let present = machine::present_nibble(bays);
-    let s = words::nibble(word, 12);
-    let p = words::nibble(word, 8);
-    let c = words::nibble(word, 4);
+    let s = words::nibble(word, SMB);
+    let p = words::nibble(word, POWER_BY);
+    let c = words::nibble(word, CHARGE);
     (names_bay(s) & !words::is_among(present, s))
         | (names_bay(p) & !words::is_among(candidate_nibble(bays), p))
         | (names_bay(c) & !(words::is_among(present, c) & words::is_among(ok_nibble(bays), c)))
@@ -139,8 +148,8 @@ fn write_over(n: u16, standing: u16) -> u16
 pub fn is_same_bay(m: Machine, word: u16) -> bool
     ensures { λ r. ⌜ r ≡ sameBay m word ⌝ }
 {
-    let p = words::nibble(word, 8);
-    let c = words::nibble(word, 4);
+    let p = words::nibble(word, POWER_BY);
+    let c = words::nibble(word, CHARGE);
     let power = write_over(p, m.selector.power);
     ((p != 15) | (c != 15)) & (power != 0) & (power == write_over(c, m.selector.charge))
 }
@@ -149,9 +158,9 @@ pub fn is_same_bay(m: Machine, word: u16) -> bool
 pub fn set_state(m: Machine, word: u16) -> Machine
     ensures { λ r. ⌜ r ≡ act m (event.HostWrite 0x14 0x01 word) ⌝ }
 {
-    let smb = write_over(words::nibble(word, 12), m.selector.smb);
-    let power = write_over(words::nibble(word, 8), m.selector.power);
-    let charge = write_over(words::nibble(word, 4), m.selector.charge);
+    let smb = write_over(words::nibble(word, SMB), m.selector.smb);
+    let power = write_over(words::nibble(word, POWER_BY), m.selector.power);
+    let charge = write_over(words::nibble(word, CHARGE), m.selector.charge);
     let selector = Selector {
         smb: smb,
         power: power,
@@ -200,16 +209,16 @@ pub fn set_presets(m: Machine, word: u16) -> Machine
     ensures { λ r. ⌜ r ≡ act m (event.HostWrite 0x14 0x02 word) ⌝ }
 {
     let bays = m.bays;
-    let charge = keep_charge(m, word);
-    let next = words::nibble(word, 4);
+    let kept = keep_charge(m, word);
+    let next = words::nibble(word, USE_NEXT);
     let selector = Selector {
         smb: m.selector.smb,
         power: m.selector.power,
-        charge: charge,
+        charge: kept,
         next: next,
     };
     let mut n = machine::with_bays(m, mark_bays(bays, word));
-    n.charger = charger::fresh_if(charge != m.selector.charge, m.charger);
+    n.charger = charger::fresh_if(kept != m.selector.charge, m.charger);
     n.selector = selector;
     n
 }
