@@ -64,11 +64,11 @@ pub struct Selector {
 
 pub struct Machine {
     pub setup: Setup,
+    pub ac: bool,
+    pub notice: bool,
     pub bays: [Bay; 4],
     pub charger: Charger,
     pub selector: Selector,
-    pub ac: bool,
-    pub notice: bool,
 }
 
 pub enum Event {
