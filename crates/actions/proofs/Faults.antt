@@ -124,23 +124,23 @@ shows m e w f r q = by-fault m e 0 f ∙ rw (r, keeps m e q)
 
 pub on-spec-read : (m : Machine) → meant m (HostRead 0x12 0x11) ≡ shownWith 0x0002 m
 unfolding tests swaps
-on-spec-read m = shows m (HostRead 0x12 0x11) 0x0002 refl refl (search refl depth 9)
+on-spec-read m = shows m (HostRead 0x12 0x11) 0x0002 refl refl ((refl, refl, refl, refl, refl), refl, refl, refl, refl, refl)
 
 pub on-status-read : (m : Machine) → meant m (HostRead 0x12 0x13) ≡ shownWith (statusWord m) m
 unfolding tests swaps
-on-status-read m = shows m (HostRead 0x12 0x13) (statusWord m) refl refl (search refl depth 9)
+on-status-read m = shows m (HostRead 0x12 0x13) (statusWord m) refl refl ((refl, refl, refl, refl, refl), refl, refl, refl, refl, refl)
 
 pub on-state-read : (m : Machine) → meant m (HostRead 0x14 0x01) ≡ shownWith (stateShown m) (withNotice m false)
 unfolding tests swaps
-on-state-read m = shows m (HostRead 0x14 0x01) (stateShown m) refl refl (search refl depth 9)
+on-state-read m = shows m (HostRead 0x14 0x01) (stateShown m) refl refl ((refl, refl, refl, refl, refl), refl, refl, refl, refl, refl)
 
 pub on-presets-read : (m : Machine) → meant m (HostRead 0x14 0x02) ≡ shownWith (presetsShown m) m
 unfolding tests swaps
-on-presets-read m = shows m (HostRead 0x14 0x02) (presetsShown m) refl refl (search refl depth 9)
+on-presets-read m = shows m (HostRead 0x14 0x02) (presetsShown m) refl refl ((refl, refl, refl, refl, refl), refl, refl, refl, refl, refl)
 
 pub on-info-read : (m : Machine) → meant m (HostRead 0x14 0x04) ≡ shownWith (infoShown m) m
 unfolding tests swaps
-on-info-read m = shows m (HostRead 0x14 0x04) (infoShown m) refl refl (search refl depth 9)
+on-info-read m = shows m (HostRead 0x14 0x04) (infoShown m) refl refl ((refl, refl, refl, refl, refl), refl, refl, refl, refl, refl)
 
 -- at a bay: 2 where it is not supported, 9 where it is not as the event needs it
 

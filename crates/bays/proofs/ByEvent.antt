@@ -1,7 +1,7 @@
 -- The model's rules, by register, at what happens at a bay and to AC.
 use Prim.Native.Nat.{ℕ}
 use mathlib.Core.Path.{_≡_, refl}
-use mathlib.Core.Bool.{Bool, true, false, not, cond, _&&_, _||_, and-false, or-false}
+use mathlib.Core.Bool.{Bool, true, false, not, cond, _&&_, _||_, or-false}
 use lib.Dec.{eqb}
 use Rattle.model.specs.declared.Bay.{Bay}
 use Rattle.model.specs.declared.Setup.{Setup}
@@ -22,11 +22,11 @@ use Rattle.bays.specs.ByEvent.{newPack, withBay, swapped, signalRead, te
 
 fresh-in : (m : Machine) (b : ℕ) → fresh m (Insertion b) ≡ names (m .selector .charge) b
 unfolding computes
-fresh-in m b = simp (same, or-false)
+fresh-in m b = simp same
 
 fresh-out : (m : Machine) (b : ℕ) → fresh m (Removal b) ≡ names (m .selector .charge) b
 unfolding computes
-fresh-out m b = simp (same, or-false)
+fresh-out m b = simp same
 
 pub on-insertion : (m : Machine) (b : ℕ) → act m (Insertion b) ≡ swapped m b newPack
 unfolding computes swapped withBay
@@ -53,12 +53,12 @@ terminal-here false s b v bay = refl
 pub on-signal : (m : Machine) (b ohms : ℕ) →
     act m (Signal b ohms) ≡ withBays m (fourBays (λ k. signalRead (eqb b k) (bayAt (m .bays) k) ohms))
 unfolding computes
-on-signal m b ohms = simp (same, and-false, signal-here)
+on-signal m b ohms = simp (same, signal-here)
 
 pub on-terminal : (m : Machine) (b v : ℕ) →
     act m (Terminal b v) ≡ withBays m (fourBays (λ k. terminalRead (eqb b k) (m .setup) (bayAt (m .bays) k) v))
 unfolding computes
-on-terminal m b v = simp (same, and-false, terminal-here)
+on-terminal m b v = simp (same, terminal-here)
 
 -- AC
 

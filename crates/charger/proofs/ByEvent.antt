@@ -1,7 +1,7 @@
 -- The model's rules, by register, at one event of each of the charger's kinds.
 use Prim.Native.Nat.{ℕ}
 use mathlib.Core.Path.{_≡_, refl}
-use mathlib.Core.Bool.{Bool, true, false, cond, and-true, and-false}
+use mathlib.Core.Bool.{Bool, true, false, cond, and-true}
 use lib.Dec.{eqb}
 use borrow.Author.Tests.{eq-eqb}
 use Rattle.model.specs.declared.Charger.{Charger}
@@ -22,7 +22,7 @@ as-test false = refl
 
 pub on-current : (m : Machine) (w : ℕ) → act m (HostWrite 0x12 0x14 w) ≡ withCharger m (currentSet (m .charger) w)
 unfolding computes currentSet
-on-current m w = simp (same, and-false)
+on-current m w = simp same
 
 rewrites-voltage : (c : Charger) (w : ℕ) → rewritesBoth c (HostWrite 0x12 0x15 w) ≡ c .current .mark
 unfolding computes
@@ -30,20 +30,20 @@ rewrites-voltage c w = and-true (c .current .mark)
 
 pub on-voltage : (m : Machine) (w : ℕ) → act m (HostWrite 0x12 0x15 w) ≡ withCharger m (voltageSet (m .charger) w)
 unfolding computes voltageSet
-on-voltage m w = simp (same, and-false, rewrites-voltage)
+on-voltage m w = simp (same, rewrites-voltage)
 
 pub on-alarm : (m : Machine) (w : ℕ) → act m (HostWrite 0x12 0x16 w) ≡ withCharger m (alarmSet (m .charger) w)
 unfolding computes alarmSet
-on-alarm m w = simp (same, and-false, as-test)
+on-alarm m w = simp (same, as-test)
 
 pub on-mode : (m : Machine) (w : ℕ) → act m (HostWrite 0x12 0x12 w) ≡ withCharger m (modeSet (m .charger) w)
 unfolding computes modeSet
 on-mode m w = go (bit 2 w) refl
   where
     go : (t : Bool) → bit 2 w ≡ t → act m (HostWrite 0x12 0x12 w) ≡ withCharger m (modeSet (m .charger) w)
-    go true q = simp (q, same, and-false)
-    go false q = simp (q, same, and-false, and-true)
+    go true q = simp (q, same)
+    go false q = simp (q, same)
 
 pub on-tick : (m : Machine) → act m Tick ≡ withCharger m (ticked (m .charger))
 unfolding computes aged ticked
-on-tick m = simp (same, and-false)
+on-tick m = simp same

@@ -1,13 +1,12 @@
 -- The model's rules, by register, at the selector's two words.
 use Prim.Native.Nat.{ℕ}
 use mathlib.Core.Path.{_≡_, refl}
-use mathlib.Core.Bool.{Bool, true, false, not, cond, and-false, or-false}
+use mathlib.Core.Bool.{Bool, true, false, not, cond, or-false}
 use lib.Dec.{eqb}
 use Rattle.model.specs.declared.Machine.{Machine}
 use Rattle.model.specs.declared.Event.the-variants.{HostWrite}
 use Rattle.model.specs.Words.{chargeIn}
 use Rattle.model.specs.SelectorRules.{written, chargeAfter}
-use Rattle.model.specs.ChargerRules.{fresh}
 use Rattle.model.specs.Machines.{act}
 use Rattle.model.proofs.Computes.{computes}
 use Rattle.charger.proofs.Afresh.{fresh-or-kept}
@@ -26,18 +25,10 @@ charge-presets : (m : Machine) (w : ℕ) → chargeAfter m (HostWrite 0x14 0x02 
 unfolding computes keptCharge
 charge-presets m w = refl
 
-fresh-state : (m : Machine) (w : ℕ) → fresh m (HostWrite 0x14 0x01 w) ≡ not (eqb (written (chargeIn w) (m .selector .charge)) (m .selector .charge))
-unfolding computes
-fresh-state m w = simp (charge-state, and-false, or-false)
-
-fresh-presets : (m : Machine) (w : ℕ) → fresh m (HostWrite 0x14 0x02 w) ≡ not (eqb (keptCharge m w) (m .selector .charge))
-unfolding computes
-fresh-presets m w = simp (charge-presets, and-false, or-false)
-
 pub on-state : (m : Machine) (w : ℕ) → act m (HostWrite 0x14 0x01 w) ≡ stateSet m w
 unfolding computes stateSet
-on-state m w = simp (fresh-state, charge-state, fresh-or-kept (HostWrite 0x14 0x01 w) (refl, refl, refl, refl, refl), or-false)
+on-state m w = simp (charge-state, fresh-or-kept (HostWrite 0x14 0x01 w) (refl, refl, refl, refl, refl), or-false)
 
 pub on-presets : (m : Machine) (w : ℕ) → act m (HostWrite 0x14 0x02 w) ≡ presetsSet m w
 unfolding computes presetsSet
-on-presets m w = simp (fresh-presets, charge-presets, fresh-or-kept (HostWrite 0x14 0x02 w) (refl, refl, refl, refl, refl), or-false)
+on-presets m w = simp (charge-presets, fresh-or-kept (HostWrite 0x14 0x02 w) (refl, refl, refl, refl, refl), or-false)

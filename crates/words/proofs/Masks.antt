@@ -90,7 +90,7 @@ first-one mask n =
 -- a bay of the mask, if not none
 pub some-among : (mask n : ℕ) → (not (eqb n 0) && oneOf mask n) ≡ among mask n
 unfolding among named
-some-among mask n = by-test (eqb n 0) (λ q. simp (q, eqb-true n 0 q)) (λ q. simp q)
+some-among mask n = by-test (eqb n 0) (λ q. simp (eqb-true n 0 q)) (λ q. simp q)
 
 -- a mask of four tests holds each of them
 
