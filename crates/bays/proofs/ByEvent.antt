@@ -7,7 +7,6 @@ use Rattle.model.specs.declared.Bay.{Bay}
 use Rattle.model.specs.declared.Setup.{Setup}
 use Rattle.model.specs.declared.Machine.{Machine}
 use Rattle.model.specs.declared.Event.the-variants.{Insertion, Removal, Signal, Terminal, Ac}
-use Rattle.model.specs.Words.{names}
 use Rattle.model.specs.Bays.{emptyBay, bayAt, bayAfter, fourBays, baysAfter}
 use Rattle.model.specs.Events.{kindOf, kindNumber, is, atBay, swaps, swapsAt, saysPresent, resets, connects}
 use Rattle.model.specs.SelectorRules.{acAfter, acArrives, acGoes, smbAfter, powerAfter, dropsCharge, chargeAfter, nextAfter, noticeAfter}
@@ -20,21 +19,13 @@ use Rattle.bays.specs.ByEvent.{newPack, withBay, swapped, signalRead, te
 
 -- a pack put in or pulled
 
-fresh-in : (m : Machine) (b : ℕ) → fresh m (Insertion b) ≡ names (m .selector .charge) b
-unfolding computes
-fresh-in m b = simp same
-
-fresh-out : (m : Machine) (b : ℕ) → fresh m (Removal b) ≡ names (m .selector .charge) b
-unfolding computes
-fresh-out m b = simp same
-
 pub on-insertion : (m : Machine) (b : ℕ) → act m (Insertion b) ≡ swapped m b newPack
 unfolding computes swapped withBay
-on-insertion m b = simp (fresh-in, fresh-or-kept (Insertion b) (refl, refl, refl, refl, refl))
+on-insertion m b = simp (same, fresh-or-kept (Insertion b) (refl, refl, refl, refl, refl))
 
 pub on-removal : (m : Machine) (b : ℕ) → act m (Removal b) ≡ swapped m b emptyBay
 unfolding computes swapped withBay
-on-removal m b = simp (fresh-out, fresh-or-kept (Removal b) (refl, refl, refl, refl, refl))
+on-removal m b = simp (same, fresh-or-kept (Removal b) (refl, refl, refl, refl, refl))
 
 -- a pack's signal and terminal voltage
 
