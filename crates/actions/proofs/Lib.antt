@@ -4,3 +4,4 @@ pub mod Faults
 pub mod Senders
 pub mod Decides
 pub mod Ends
+pub mod Unique

@@ -1,2 +1,3 @@
 pub mod ByEvent
 pub mod Afresh
+pub mod Unique

@@ -19,4 +19,5 @@ pub mod Later
 pub mod Candidates
 pub mod Settled
 pub mod Theorems
+pub mod Outcomes
 pub mod Unique

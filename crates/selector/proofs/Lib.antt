@@ -1,2 +1,3 @@
 pub mod ByMask
 pub mod ByEvent
+pub mod Unique

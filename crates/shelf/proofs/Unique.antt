@@ -1,10 +1,8 @@
--- No two outcomes fit the contract of a function here. `Post` is the plain reading of its own `ensures`.
+-- No two outcomes fit the contract of a function of the face.
 use Prim.Native.Nat.{ℕ}
 use mathlib.Core.Path.{_≡_, sym, _∙_, ap}
 use native.Mathlib.Omega.{arith}
-use contract.Lifetimes.{Lfts}
-use borrow.Fn.Kinds.{Dens, resT, endedOf}
-use denote.Triple.Clauses.{AtExit}
+use Rattle.model.proofs.Outcomes.{OneOutcome}
 use Rattle.model.proofs.Numbers.{refusals-apart, steps-apart}
 use Rattle.shelf.specs.declared.Outputs.{Outputs}
 use Rattle.shelf.specs.declared.Outputs.the-variants.{Drive, Refused}
@@ -16,13 +14,11 @@ use Rattle.shelf.proofs.step.Reads as step-reads
 use Rattle.shelf.proofs.charge.Kinds as charge-kinds
 use Rattle.shelf.proofs.charge.Reads as charge-reads
 
-pub power-on-one : (κs : Lfts 0) (a : Dens κs power-on-kinds.ps) (r q : resT power-on-kinds.r κs .Denot) (s t : AtExit (endedOf 0 power-on-kinds.ps power-on-kinds.r) κs) →
-    power-on-reads.Post κs a r s → power-on-reads.Post κs a q t → r ≡ q
-power-on-one κs a r q s t x y = steps-apart r q (x ∙ sym y)
+pub power-on-one : OneOutcome power-on-kinds.ps power-on-kinds.r power-on-reads.Post
+power-on-one κs a x y s t p q = steps-apart x y (p ∙ sym q)
 
-pub step-one : (κs : Lfts 0) (a : Dens κs step-kinds.ps) (r q : resT step-kinds.r κs .Denot) (s t : AtExit (endedOf 0 step-kinds.ps step-kinds.r) κs) →
-    step-reads.Post κs a r s → step-reads.Post κs a q t → r ≡ q
-step-one κs a r q s t x y = steps-apart r q (x ∙ sym y)
+pub step-one : OneOutcome step-kinds.ps step-kinds.r step-reads.Post
+step-one κs a x y s t p q = steps-apart x y (p ∙ sym q)
 
 -- no two outputs are shown alike
 numberShown : Shown → ℕ
@@ -36,6 +32,5 @@ outputs-apart (Drive a b n) (Refused why) p = let z : _≡_ {A = ℕ} 0 1 = cc i
 outputs-apart (Refused why) (Drive a b n) p = let z : _≡_ {A = ℕ} 0 1 = cc in absurd (omega arith)
 outputs-apart (Refused why) (Refused because) p = ap Refused (refusals-apart why because (ap numberShown p))
 
-pub charge-one : (κs : Lfts 0) (a : Dens κs charge-kinds.ps) (r q : resT charge-kinds.r κs .Denot) (s t : AtExit (endedOf 0 charge-kinds.ps charge-kinds.r) κs) →
-    charge-reads.Post κs a r s → charge-reads.Post κs a q t → r ≡ q
-charge-one κs a r q s t x y = outputs-apart r q (x ∙ sym y)
+pub charge-one : OneOutcome charge-kinds.ps charge-kinds.r charge-reads.Post
+charge-one κs a x y s t p q = outputs-apart x y (p ∙ sym q)

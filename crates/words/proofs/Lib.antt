@@ -2,3 +2,4 @@
 pub mod Below
 pub mod OneBit
 pub mod Masks
+pub mod Unique
