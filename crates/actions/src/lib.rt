@@ -79,6 +79,7 @@ fn choose(sender: u8, address: u8, code: u8, word: u16) -> Action
     }
 }
 
+// A bay as a sender: whether it is the CHARGE bay and holds a pack.
 fn sender_of(m: Machine, b: u8) -> u8
     ensures { λ r. ⌜ r ≡ senderAt m b ⌝ }
 {
@@ -141,6 +142,7 @@ pub fn decide(m: Machine, e: Event) -> Action
     }
 }
 
+// Done, beside the machine.
 fn done(m: Machine) -> Stepped
     ensures { λ r. ⌜ r ≡ record { answer = answer.Done; machine = m } ⌝ }
 {
@@ -150,6 +152,7 @@ fn done(m: Machine) -> Stepped
     }
 }
 
+// A word that was read, beside the machine.
 fn show(m: Machine, word: u16) -> Stepped
     ensures { λ r. ⌜ r ≡ record { answer = answer.Word word; machine = m } ⌝ }
 {
@@ -225,6 +228,7 @@ pub fn perform(m: Machine, a: Action) -> Stepped
     }
 }
 
+// Whether an answer is no refusal.
 fn is_accepted(a: Answer) -> bool
     ensures { λ r. ⌜ r ≡ isAccepted a ⌝ }
 {

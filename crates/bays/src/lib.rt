@@ -10,6 +10,7 @@ ghost use Rattle.model.specs.declared.Event.the-variants as event;
 ghost use Rattle.model.specs.Machines.{act};
 ghost use Rattle.bays.specs.ByEvent.{newPack, withBay, swapped, signalRead, terminalRead};
 
+// A bay whose pack was just put in.
 fn new_pack() -> Bay
     ensures { λ r. ⌜ r ≡ newPack ⌝ }
 {
@@ -21,20 +22,14 @@ fn new_pack() -> Bay
     }
 }
 
-fn choose_bay(c: bool, a: Bay, b: Bay) -> Bay
-    ensures { λ r. ⌜ r ≡ cond c a b ⌝ }
-{
-    if c { a } else { b }
-}
-
 // The bays with another at number b, all as they are where there is no such bay.
 fn put_bay(bays: [Bay; 4], b: u8, bay: Bay) -> [Bay; 4]
     ensures { λ r. ⌜ r ≡ withBay bays b bay ⌝ }
 {
-    let first = choose_bay(b == 0, bay, bays[0]);
-    let second = choose_bay(b == 1, bay, bays[1]);
-    let third = choose_bay(b == 2, bay, bays[2]);
-    let fourth = choose_bay(b == 3, bay, bays[3]);
+    let first = machine::choose_bay(b == 0, bay, bays[0]);
+    let second = machine::choose_bay(b == 1, bay, bays[1]);
+    let third = machine::choose_bay(b == 2, bay, bays[2]);
+    let fourth = machine::choose_bay(b == 3, bay, bays[3]);
     [first, second, third, fourth]
 }
 
@@ -63,6 +58,7 @@ pub fn remove(m: Machine, b: u8) -> Machine
     swap(m, b, machine::empty_bay())
 }
 
+// One of two readings.
 fn choose_reading(c: bool, a: Reading, b: Reading) -> Reading
     ensures { λ r. ⌜ r ≡ cond c a b ⌝ }
 {

@@ -47,6 +47,7 @@ fn same(kept: Request) -> Request
     }
 }
 
+// A request that was just written.
 fn ask(word: u16) -> Request
     ensures { λ r. ⌜ r ≡ asked word ⌝ }
 {
@@ -57,6 +58,7 @@ fn ask(word: u16) -> Request
     }
 }
 
+// 0x14: the hold is lifted if the voltage was rewritten too.
 fn take_current(c: Charger, word: u16) -> Charger
     ensures { λ r. ⌜ r ≡ currentSet c word ⌝ }
 {
@@ -68,6 +70,7 @@ fn take_current(c: Charger, word: u16) -> Charger
     }
 }
 
+// 0x15: the hold is lifted if the current was rewritten too.
 fn take_voltage(c: Charger, word: u16) -> Charger
     ensures { λ r. ⌜ r ≡ voltageSet c word ⌝ }
 {
@@ -79,6 +82,7 @@ fn take_voltage(c: Charger, word: u16) -> Charger
     }
 }
 
+// 0x16: an alarm clears the rewrite mark.
 fn remark(alarm: bool, q: Request) -> Request
     ensures { λ r. ⌜ r ≡ remarked alarm q ⌝ }
 {
@@ -89,6 +93,7 @@ fn remark(alarm: bool, q: Request) -> Request
     }
 }
 
+// 0x16: an alarm puts on the hold, a word that is none lifts it.
 fn take_alarm(c: Charger, word: u16) -> Charger
     ensures { λ r. ⌜ r ≡ alarmSet c word ⌝ }
 {
@@ -101,12 +106,14 @@ fn take_alarm(c: Charger, word: u16) -> Charger
     }
 }
 
+// A tick adds 1 to an age below 175.
 fn older(age: u16) -> u16
     ensures { λ r. ⌜ r ≡ rules.older age ⌝ }
 {
     if age < 175 { age + 1 } else { age }
 }
 
+// A request whose age is 175 after a tick becomes 0.
 fn age_one(q: Request) -> Request
     ensures { λ r. ⌜ r ≡ aged q ⌝ }
 {
@@ -118,6 +125,7 @@ fn age_one(q: Request) -> Request
     }
 }
 
+// A tick: each request has an age of its own.
 fn age_both(c: Charger) -> Charger
     ensures { λ r. ⌜ r ≡ ticked c ⌝ }
 {
@@ -129,6 +137,7 @@ fn age_both(c: Charger) -> Charger
     }
 }
 
+// 0x12, bit 3: the request becomes 0, its age and mark stay.
 fn zero(on: bool, q: Request) -> Request
     ensures { λ r. ⌜ r ≡ zeroed on q ⌝ }
 {
@@ -188,6 +197,7 @@ pub fn tick(m: Machine) -> Machine
     machine::with_charger(m, age_both(m.charger))
 }
 
+// AC and the CHARGE bay are present, its signal allows charging, no inhibit, no hold, and both requests are there.
 fn is_charging(m: Machine) -> bool
     ensures { λ r. ⌜ r ≡ charging m ⌝ }
 {
@@ -220,12 +230,14 @@ pub fn output_of(m: Machine) -> Output
     }
 }
 
+// Whether a request is above the largest value, 65535 too.
 fn is_above(l: Limit, request: u16) -> bool
     ensures { λ r. ⌜ r ≡ aboveLargest l request ⌝ }
 {
     (l.largest < request) | (request == 65535)
 }
 
+// Status bits 8 to 11 of the CHARGE bay; over range when it is none or absent.
 fn signal_bits(bay: Bay) -> u16
     ensures { λ r. ⌜ (r ≡ signalBits bay) × (r ≤ 0x0F00) ⌝ }
 {

@@ -1,16 +1,16 @@
--- The supported bays and the bays that hold a pack, by their nibbles.
+-- The supported bays, the bays that hold a pack and the bay that is named, by their nibbles.
 use Prim.Native.Nat.{ℕ, _≤_, _<_}
-use mathlib.Core.Path.{_≡_}
-use mathlib.Core.Bool.{false}
+use mathlib.Core.Path.{_≡_, refl}
+use mathlib.Core.Bool.{Bool, true, false, cond, _||_}
 use mathlib.Core.List.{List}
 use native.Mathlib.Nat.{div-eq-of-lt, lt-of-lt-of-le}
-use lib.Dec.{ltb}
+use lib.Dec.{ltb, eqb}
 use lib.Pow.{pow-mono}
 use borrow.Author.Tests.{ltb-true, ltb-false}
 use Rattle.model.specs.declared.Bay.{Bay}
 use Rattle.model.specs.declared.Setup.{Setup}
-use Rattle.model.specs.Words.{bit}
-use Rattle.model.specs.Bays.{bayAt}
+use Rattle.model.specs.Words.{bit, named, bayNumber}
+use Rattle.model.specs.Bays.{emptyBay, bayAt, bayNamed}
 use Rattle.model.specs.Reads.{presentNibble}
 use Rattle.model.specs.Refusals.{supports, oneBay}
 use Rattle.words.specs.Masks.{among, oneOf}
@@ -35,3 +35,19 @@ unfolding presentNibble bayIn
 present-in bays b =
     by-test (ltb b 4) (λ q. rw q (bit-four (λ b. bayAt bays b .present) b (ltb-true b 4 q)))
     (λ q. rw q (past-four (presentNibble bays) b (four-lt (bayAt bays 0 .present) (bayAt bays 1 .present) (bayAt bays 2 .present) (bayAt bays 3 .present)) (ltb-false b 4 q)))
+
+-- the bay that a nibble names, by four choices
+pub by-nibble : (bays : List Bay) (n : ℕ) →
+    cond (eqb n 1) (bayAt bays 0) (cond (eqb n 2) (bayAt bays 1) (cond (eqb n 4) (bayAt bays 2) (cond (eqb n 8) (bayAt bays 3) emptyBay)))
+    ≡ bayNamed bays n
+unfolding bayNamed named bayNumber
+by-nibble bays n = go (eqb n 1) (eqb n 2) (eqb n 4) (eqb n 8)
+  where
+    go : (a b c d : Bool) →
+        cond a (bayAt bays 0) (cond b (bayAt bays 1) (cond c (bayAt bays 2) (cond d (bayAt bays 3) emptyBay)))
+        ≡ cond (a || b || c || d) (bayAt bays (cond a 0 (cond b 1 (cond c 2 3)))) emptyBay
+    go true b c d = refl
+    go false true c d = refl
+    go false false true d = refl
+    go false false false true = refl
+    go false false false false = refl

@@ -11,8 +11,8 @@ use Rattle.machine.proofs.is_bad.Kinds as is-bad-kinds
 use Rattle.machine.proofs.is_bad.Reads as is-bad-reads
 use Rattle.machine.proofs.empty_bay.Kinds as empty-bay-kinds
 use Rattle.machine.proofs.empty_bay.Reads as empty-bay-reads
-use Rattle.machine.proofs.bay_at.Kinds as bay-at-kinds
-use Rattle.machine.proofs.bay_at.Reads as bay-at-reads
+use Rattle.machine.proofs.choose_bay.Kinds as choose-bay-kinds
+use Rattle.machine.proofs.choose_bay.Reads as choose-bay-reads
 use Rattle.machine.proofs.named_bay.Kinds as named-bay-kinds
 use Rattle.machine.proofs.named_bay.Reads as named-bay-reads
 use Rattle.machine.proofs.present_nibble.Kinds as present-nibble-kinds
@@ -41,8 +41,8 @@ is-bad-one κs a x y s t p q = p ∙ sym q
 pub empty-bay-one : OneOutcome empty-bay-kinds.ps empty-bay-kinds.r empty-bay-reads.Post
 empty-bay-one κs a x y s t p q = p ∙ sym q
 
-pub bay-at-one : OneOutcome bay-at-kinds.ps bay-at-kinds.r bay-at-reads.Post
-bay-at-one κs a x y s t p q = p ∙ sym q
+pub choose-bay-one : OneOutcome choose-bay-kinds.ps choose-bay-kinds.r choose-bay-reads.Post
+choose-bay-one κs a x y s t p q = p ∙ sym q
 
 pub named-bay-one : OneOutcome named-bay-kinds.ps named-bay-kinds.r named-bay-reads.Post
 named-bay-one κs a x y s t p q = p ∙ sym q

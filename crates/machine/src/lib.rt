@@ -6,12 +6,14 @@ use model::Machine;
 use model::Reading;
 use model::Setup;
 ghost use mathlib.Core.Path.{_≡_};
+ghost use mathlib.Core.Bool.{cond};
 ghost use Rattle.model.specs.Bays.{emptyBay, bayNamed};
 ghost use Rattle.model.specs.Machines.{withBays, withCharger, withNotice};
 ghost use Rattle.model.specs.Reads.{presentNibble};
 ghost use Rattle.model.specs.Refusals.{supports, oneBay, goodLimit, goodSetup, wasRead, strayBay, strayBays, strayNibble, overAge, badMachine};
 ghost use Rattle.machine.specs.ByNumber.{bayIn};
 
+// Whether 1 <= safe <= largest <= 65534.
 fn is_good_limit(l: Limit) -> bool
     ensures { λ r. ⌜ r ≡ goodLimit l ⌝ }
 {
@@ -43,6 +45,7 @@ pub fn is_one_bay(s: Setup, n: u16) -> bool
     (n == 0) | (words::is_named(n) & (s.supported & n != 0))
 }
 
+// Whether there is a reading.
 fn was_read(reading: Reading) -> bool
     ensures { λ r. ⌜ r ≡ wasRead reading ⌝ }
 {
@@ -60,6 +63,7 @@ fn is_stray_bay(s: Setup, b: u8, bay: Bay) -> bool
     (bay.present & !is_supported(s, b)) | (!bay.present & (bay.ok | bay.low | was_read(reading)))
 }
 
+// Whether one of the four is such a bay.
 fn are_stray_bays(s: Setup, bays: [Bay; 4]) -> bool
     ensures { λ r. ⌜ r ≡ strayBays s bays ⌝ }
 {
@@ -80,6 +84,7 @@ fn has_stray_nibble(m: Machine) -> bool
         | !words::is_one_of(supported, m.selector.next)
 }
 
+// Whether an age is above 175.
 fn is_over_age(m: Machine) -> bool
     ensures { λ r. ⌜ r ≡ overAge m ⌝ }
 {
@@ -106,27 +111,22 @@ pub fn empty_bay() -> Bay
     }
 }
 
-// A bay by its number, an empty one where there is none.
-pub fn bay_at(bays: [Bay; 4], b: u8) -> Bay
-    ensures { λ r. ⌜ r ≡ bayIn bays b ⌝ }
+// One of two bays.
+pub fn choose_bay(c: bool, a: Bay, b: Bay) -> Bay
+    ensures { λ r. ⌜ r ≡ cond c a b ⌝ }
 {
-    if b < 4 {
-        let i = b as usize;
-        bays[i]
-    } else {
-        empty_bay()
-    }
+    if c { a } else { b }
 }
 
 // The bay that a nibble names, an empty one where it names none.
 pub fn named_bay(bays: [Bay; 4], n: u16) -> Bay
     ensures { λ r. ⌜ r ≡ bayNamed bays n ⌝ }
 {
-    if words::is_named(n) {
-        bay_at(bays, words::bay_number(n))
-    } else {
-        empty_bay()
-    }
+    let none = empty_bay();
+    let last = choose_bay(n == 8, bays[3], none);
+    let third = choose_bay(n == 4, bays[2], last);
+    let second = choose_bay(n == 2, bays[1], third);
+    choose_bay(n == 1, bays[0], second)
 }
 
 // The bays that hold a pack, as a mask.

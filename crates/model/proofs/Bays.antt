@@ -21,8 +21,8 @@ pub record BayAgrees (bay : Bay) (b : ℕ) (h : Past) : Type 0 where
   pub present-is : bay .present ≡ holdsPack b h
   pub reading-is : bay .reading ≡ reading b h
 
-pub record BaysAgree (bays : List Bay) (h : Past) : Type 0 where
-  pub each : (b : ℕ) → b < 4 → BayAgrees (bayAt bays b) b h
+abbrev pub BaysAgree : List Bay → Past → Type 0
+BaysAgree bays h = (b : ℕ) → b < 4 → BayAgrees (bayAt bays b) b h
 
 -- what holds of each of the four bays
 pub below-four : (P : ℕ → Type 0) → P 0 → P 1 → P 2 → P 3 → (b : ℕ) → b < 4 → P b
@@ -76,15 +76,12 @@ unfolding holdsPack reading isAt bayAfter presentAfter readingAfter
 here s e b h bay q a = record { present-is = simp (q, and-true, a .present-is); reading-is = simp (q, and-true, a .reading-is) }
 
 pub bays-step : (m : Machine) (e : Event) (h : Past) → BaysAgree (m .bays) h → BaysAgree (baysAfter (m .setup) (m .bays) e) (e ∷ h)
-bays-step m e h a =
-    record {
-      each =
-          λ b l. each-bay (λ x. BayAgrees x b (e ∷ h)) (m .setup) (m .bays) e b l (λ at q. here (m .setup) e b h _ q (a .each b l))
-          (λ q. elsewhere e b h _ q (a .each b l)) (λ q. nowhere e b h _ q (marked b l)) (λ q. nowhere e b h _ q (a .each b l));
-    }
+bays-step m e h a b l =
+    each-bay (λ x. BayAgrees x b (e ∷ h)) (m .setup) (m .bays) e b l (λ at q. here (m .setup) e b h _ q (a b l))
+    (λ q. elsewhere e b h _ q (a b l)) (λ q. nowhere e b h _ q marked) (λ q. nowhere e b h _ q (a b l))
   where
-    marked : (b : ℕ) → b < 4 → BayAgrees (okWritten (wordOf e) b (bayAt (m .bays) b)) b h
-    marked b l = record { present-is = a .each b l .present-is; reading-is = a .each b l .reading-is }
+    marked : BayAgrees (okWritten (wordOf e) b (bayAt (m .bays) b)) b h
+    marked = record { present-is = a b l .present-is; reading-is = a b l .reading-is }
 
 -- what a nibble names
 pub number-small : (n : ℕ) → bayNumber n < 4
@@ -102,7 +99,7 @@ unfolding bayNamed packAt
 present-at bays n h a = go (named n)
   where
     go : (t : Bool) → cond t (bayAt bays (bayNumber n)) emptyBay .present ≡ (t && holdsPack (bayNumber n) h)
-    go true = a .each (bayNumber n) (number-small n) .present-is
+    go true = a (bayNumber n) (number-small n) .present-is
     go false = refl
 
 -- the signal of the bay that a nibble names, where that bay holds a pack
@@ -114,7 +111,7 @@ signal-at bays n h first a = go (named n)
     go : (t : Bool) →
         (first && (t && holdsPack (bayNumber n) h) && allows (cond t (bayAt bays (bayNumber n)) emptyBay .reading))
         ≡ (first && (t && holdsPack (bayNumber n) h) && allows (reading (bayNumber n) h))
-    go true = rw (a .each (bayNumber n) (number-small n) .reading-is)
+    go true = rw (a (bayNumber n) (number-small n) .reading-is)
     go false = simp and-false
 
 unheard : (b : ℕ) → BayAgrees emptyBay b []
@@ -123,4 +120,4 @@ unheard b = record { present-is = refl; reading-is = refl }
 
 pub bays-power-on : (s : Setup) → BaysAgree (powerOn s .bays) []
 unfolding powerOn
-bays-power-on s = record { each = λ b l. rw (empty-at s b l) (unheard b) }
+bays-power-on s b l = rw (empty-at s b l) (unheard b)

@@ -28,12 +28,14 @@ const CHARGE: u16 = 4;
 
 const USE_NEXT: u16 = 4;
 
+// The bays that are OK to use.
 fn ok_nibble(bays: [Bay; 4]) -> u16
     ensures { λ r. ⌜ r ≡ okNibble bays ⌝ }
 {
     words::mask(bays[0].ok, bays[1].ok, bays[2].ok, bays[3].ok)
 }
 
+// The bays that are low.
 fn low_nibble(bays: [Bay; 4]) -> u16
     ensures { λ r. ⌜ (r ≡ lowNibble bays) × (r ≤ 15) ⌝ }
 {
@@ -87,6 +89,7 @@ pub fn settle(m: Machine) -> Machine
     n
 }
 
+// Whether a nibble of a SelectorState word is 0xF, 0 or one supported bay.
 fn is_formed(s: Setup, n: u16) -> bool
     ensures { λ r. ⌜ r ≡ formed s n ⌝ }
 {
@@ -109,6 +112,7 @@ pub fn is_presets_formed(s: Setup, word: u16) -> bool
     machine::is_one_bay(s, words::nibble(word, USE_NEXT))
 }
 
+// Whether a nibble of a well-formed SelectorState word names a bay.
 fn names_bay(n: u16) -> bool
     ensures { λ r. ⌜ r ≡ namesBay n ⌝ }
 {
@@ -138,6 +142,7 @@ pub fn is_not_usable(m: Machine, word: u16) -> bool
         | ((p == 0) & !m.ac)
 }
 
+// A nibble of a SelectorState word over the one that stands: 0xF means unchanged.
 fn write_over(n: u16, standing: u16) -> u16
     ensures { λ r. ⌜ r ≡ written n standing ⌝ }
 {
@@ -173,6 +178,7 @@ pub fn set_state(m: Machine, word: u16) -> Machine
     n
 }
 
+// Bay b after a SelectorPresets word: the OK mark of an absent bay stays 0.
 fn mark_ok(word: u16, b: u16, bay: Bay) -> Bay
     ensures { λ r. ⌜ r ≡ okWritten word b bay ⌝ }
 {
@@ -181,6 +187,7 @@ fn mark_ok(word: u16, b: u16, bay: Bay) -> Bay
     n
 }
 
+// All four bays after a SelectorPresets word.
 fn mark_bays(bays: [Bay; 4], word: u16) -> [Bay; 4]
     ensures { λ r. ⌜ r ≡ allOkWritten word bays ⌝ }
 {
@@ -223,6 +230,7 @@ pub fn set_presets(m: Machine, word: u16) -> Machine
     n
 }
 
+// POWER_BY, inverted while the charge output is non-zero.
 fn show_power(m: Machine) -> u16
     ensures { λ r. ⌜ r ≡ shownPower m ⌝ }
 {
@@ -270,6 +278,7 @@ fn follower_nibble(m: Machine) -> u16
     )
 }
 
+// USE_NEXT: the wanted bay if it may follow, else the first that may, else 0.
 fn show_next(m: Machine) -> u16
     ensures { λ r. ⌜ r ≡ shownNext m ⌝ }
 {

@@ -25,58 +25,6 @@ pub enum Outputs {
     Refused(Refusal),
 }
 
-fn power_on_of(s: Setup) -> Machine
-    ensures { λ r. ⌜ r ≡ powerOn s ⌝ }
-{
-    let none = Request {
-        word: 0,
-        age: 0,
-        mark: false,
-    };
-    let charger = Charger {
-        current: none,
-        voltage: none,
-        hold: false,
-        inhibit: false,
-    };
-    let selector = Selector {
-        smb: 0,
-        power: 0,
-        charge: 0,
-        next: 0,
-    };
-    let e = machine::empty_bay();
-    let bays = [e, e, e, e];
-    Machine {
-        setup: s,
-        bays: bays,
-        charger: charger,
-        selector: selector,
-        ac: false,
-        notice: false,
-    }
-}
-
-fn program_setup() -> Setup
-    ensures { λ r. ⌜ r ≡ programSetup ⌝ }
-{
-    let current = Limit {
-        largest: 3000,
-        safe: 2000,
-    };
-    let voltage = Limit {
-        largest: 18000,
-        safe: 16800,
-    };
-    Setup {
-        supported: 3,
-        current: current,
-        voltage: voltage,
-        low: 9000,
-        restart: 10500,
-    }
-}
-
 // The machine at power-on. A setup out of its ranges is refused with 1, beside the machine of the program's setup.
 pub fn power_on(setup: Setup) -> Stepped
     ensures { λ r. ⌜ told r ≡ powerOnSpec setup ⌝ }
@@ -116,5 +64,59 @@ pub fn charge(machine: Machine) -> Outputs
             millivolts: o.millivolts,
             notice: machine.notice,
         }
+    }
+}
+
+// AC absent, all bays empty, no request, no nibble, no notice, not inhibited.
+fn power_on_of(s: Setup) -> Machine
+    ensures { λ r. ⌜ r ≡ powerOn s ⌝ }
+{
+    let none = Request {
+        word: 0,
+        age: 0,
+        mark: false,
+    };
+    let charger = Charger {
+        current: none,
+        voltage: none,
+        hold: false,
+        inhibit: false,
+    };
+    let selector = Selector {
+        smb: 0,
+        power: 0,
+        charge: 0,
+        next: 0,
+    };
+    let e = machine::empty_bay();
+    let bays = [e, e, e, e];
+    Machine {
+        setup: s,
+        bays: bays,
+        charger: charger,
+        selector: selector,
+        ac: false,
+        notice: false,
+    }
+}
+
+// The setup that a refused one falls back to.
+fn program_setup() -> Setup
+    ensures { λ r. ⌜ r ≡ programSetup ⌝ }
+{
+    let current = Limit {
+        largest: 3000,
+        safe: 2000,
+    };
+    let voltage = Limit {
+        largest: 18000,
+        safe: 16800,
+    };
+    Setup {
+        supported: 3,
+        current: current,
+        voltage: voltage,
+        low: 9000,
+        restart: 10500,
     }
 }

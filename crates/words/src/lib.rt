@@ -79,6 +79,7 @@ pub fn flag(on: bool, value: u16) -> u16
     if on { value } else { 0 }
 }
 
+// 1 where it is on, else 0.
 fn one(on: bool) -> u16
     ensures { λ r. ⌜ (r ≡ cond on 1 0) × (r ≤ 1) ⌝ }
 {
