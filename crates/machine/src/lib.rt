@@ -42,7 +42,7 @@ pub fn is_supported(s: Setup, b: u8) -> bool
 pub fn is_one_bay(s: Setup, n: u16) -> bool
     ensures { λ r. ⌜ r ≡ oneBay s n ⌝ }
 {
-    (n == 0) | (words::is_named(n) & (s.supported & n != 0))
+    (n == 0) | (words::is_named(n) & is_supported(s, words::bay_number(n)))
 }
 
 // Whether there is a reading.

@@ -54,19 +54,6 @@ not-among : (mask n : ℕ) → named n ≡ false → among mask n ≡ false
 unfolding among
 not-among mask n q = rw q
 
-nibble-among : (n k : ℕ) → n < 16 → k < 16 → (named n && not (eqb (bitAnd k n) 0)) ≡ among k n
-unfolding among named bayNumber bit
-nibble-among n k hn hk = agreed _ _ (at-both (λ n k. agree (named n && not (eqb (bitAnd k n) 0)) (among k n)) 16 tt n k hn hk)
-
--- a bay of the mask
-pub bit-among : (mask n : ℕ) → (named n && not (eqb (bitAnd mask n) 0)) ≡ among mask n
-bit-among mask n =
-    by-test (ltb n 16)
-    (λ q.
-    let h : n < 16 = ltb-true n 16 q in
-    rw (← low-and mask n h, ← low-among mask n) (nibble-among n (mask % 16) h (omega arith)))
-    (λ q. simp (past n q, not-among mask n (past n q)))
-
 first-lt : (n : ℕ) → firstIn n < 16
 unfolding firstIn
 first-lt n =
