@@ -15,7 +15,7 @@ ghost use Rattle.model.specs.Machines.{programSetup, powerOn};
 ghost use Rattle.model.specs.Step.{told, stepSpec, powerOnSpec};
 ghost use Rattle.shelf.specs.Outputs.{shown, chargeSpec};
 
-// What the board has to drive: the charge output and the notice line; or the refusal.
+// What the board has to drive: the charge output and the notice; or the refusal.
 pub enum Outputs {
     Drive {
         milliamps: u16,
