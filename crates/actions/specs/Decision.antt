@@ -59,7 +59,7 @@ atBay m b full a =
     else Refuse WrongPresence
     else Refuse UnsupportedBay
 
--- what an event comes to, but for what a selector word itself says
+-- what an event comes to; 5 to 8 are tried where a word of the selector is taken
 abbrev pub decided : Machine → Event → Action
 decided m (HostWrite address code w) = chosen 0 address code w
 decided m (HostRead address code) = chosen 1 address code 0

@@ -53,7 +53,7 @@ fn key_of(sender: u8, address: u8, code: u8) -> u32
 }
 
 // The one decision over sender, address and code: the register's action, or refusal 3. A word that exists gets refusal 4 from
-// another bay than the CHARGE bay.
+// a bay that is not the CHARGE bay, or holds no pack.
 fn choose(sender: u8, address: u8, code: u8, word: u16) -> Action
     ensures { λ r. ⌜ r ≡ chosen sender address code word ⌝ }
 {
@@ -119,7 +119,7 @@ fn at_bay(m: Machine, b: u8, full: bool, then: Action) -> Action
     }
 }
 
-// What an event comes to on a good machine, but for what the word itself says.
+// What an event comes to on a good machine: its action, or refusal 2, 3, 4 or 9. 5 to 8 are tried where a word of the selector is taken.
 pub fn decide(m: Machine, e: Event) -> Action
     ensures { λ r. ⌜ r ≡ decided m e ⌝ }
 {

@@ -51,14 +51,14 @@ pub fn insert(m: Machine, b: u8) -> Machine
     swap(m, b, new_pack())
 }
 
-// The machine after a pack was pulled.
+// The machine after a pack was pulled, before it settles.
 pub fn remove(m: Machine, b: u8) -> Machine
     ensures { λ r. ⌜ r ≡ act m (event.Removal b) ⌝ }
 {
     swap(m, b, machine::empty_bay())
 }
 
-// One of two readings.
+// The reading a where c holds, else b.
 fn choose_reading(c: bool, a: Reading, b: Reading) -> Reading
     ensures { λ r. ⌜ r ≡ cond c a b ⌝ }
 {
@@ -79,7 +79,7 @@ fn take_signal(here: bool, bay: Bay, ohms: u32) -> Bay
     }
 }
 
-// The machine after a bay's safety signal was read.
+// The machine after a bay's safety signal was read, before it settles.
 pub fn read_signal(m: Machine, b: u8, ohms: u32) -> Machine
     ensures { λ r. ⌜ r ≡ act m (event.Signal b ohms) ⌝ }
 {
@@ -109,7 +109,7 @@ fn take_terminal(here: bool, s: Setup, bay: Bay, millivolts: u16) -> Bay
     }
 }
 
-// The machine after a bay's terminal voltage was read.
+// The machine after a bay's terminal voltage was read, before it settles.
 pub fn read_terminal(m: Machine, b: u8, millivolts: u16) -> Machine
     ensures { λ r. ⌜ r ≡ act m (event.Terminal b millivolts) ⌝ }
 {

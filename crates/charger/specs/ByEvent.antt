@@ -8,11 +8,11 @@ use Rattle.model.specs.If.{if_then_else_}
 use Rattle.model.specs.Words.{bit, alarming}
 use Rattle.model.specs.ChargerRules.{older}
 
--- a request after an event that is a fresh start or is none
+-- a request, cleared where the event is a fresh start
 abbrev pub droppedIf : Bool → Request → Request
 droppedIf start r = record { word = if start then 0 else r .word; age = if start then 0 else r .age; mark = if start then false else r .mark }
 
--- a charger after such an event; the inhibit state stays
+-- a charger, cleared where the event is a fresh start; the inhibit state stays
 unfoldable pub freshIf : Bool → Charger → Charger
 freshIf start c =
     record {

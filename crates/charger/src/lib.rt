@@ -13,7 +13,7 @@ ghost use Rattle.model.specs.Machines.{act};
 ghost use Rattle.model.specs.Reads.{charging, output, aboveLargest, signalBits, statusWord};
 ghost use Rattle.charger.specs.ByEvent.{droppedIf, freshIf, asked, currentSet, voltageSet, remarked, alarmSet, aged, ticked, zeroed, modeSet};
 
-// A request after an event that is a fresh start or is none.
+// A request, cleared where the event is a fresh start.
 fn drop_if(start: bool, q: Request) -> Request
     ensures { λ r. ⌜ r ≡ droppedIf start q ⌝ }
 {
@@ -24,7 +24,7 @@ fn drop_if(start: bool, q: Request) -> Request
     }
 }
 
-// A charger after an event that is a fresh start or is none; the inhibit state stays.
+// A charger, cleared where the event is a fresh start; the inhibit state stays.
 pub fn fresh_if(start: bool, c: Charger) -> Charger
     ensures { λ r. ⌜ r ≡ freshIf start c ⌝ }
 {
@@ -162,35 +162,35 @@ fn take_mode(c: Charger, word: u16) -> Charger
     }
 }
 
-// The machine after an accepted ChargingCurrent word, before it settles.
+// The machine after an accepted ChargingCurrent word, from the host or a bay, before it settles.
 pub fn set_current(m: Machine, word: u16) -> Machine
     ensures { λ r. ⌜ r ≡ act m (event.HostWrite 0x12 0x14 word) ⌝ }
 {
     machine::with_charger(m, take_current(m.charger, word))
 }
 
-// The machine after an accepted ChargingVoltage word.
+// The machine after an accepted ChargingVoltage word, from the host or a bay, before it settles.
 pub fn set_voltage(m: Machine, word: u16) -> Machine
     ensures { λ r. ⌜ r ≡ act m (event.HostWrite 0x12 0x15 word) ⌝ }
 {
     machine::with_charger(m, take_voltage(m.charger, word))
 }
 
-// The machine after an accepted AlarmWarning word.
+// The machine after an accepted AlarmWarning word, from the host or a bay, before it settles.
 pub fn set_alarm(m: Machine, word: u16) -> Machine
     ensures { λ r. ⌜ r ≡ act m (event.HostWrite 0x12 0x16 word) ⌝ }
 {
     machine::with_charger(m, take_alarm(m.charger, word))
 }
 
-// The machine after a ChargerMode word.
+// The machine after a ChargerMode word, before it settles.
 pub fn set_mode(m: Machine, word: u16) -> Machine
     ensures { λ r. ⌜ r ≡ act m (event.HostWrite 0x12 0x12 word) ⌝ }
 {
     machine::with_charger(m, take_mode(m.charger, word))
 }
 
-// The machine after a tick.
+// The machine after a tick, before it settles.
 pub fn tick(m: Machine) -> Machine
     ensures { λ r. ⌜ r ≡ act m event.Tick ⌝ }
 {

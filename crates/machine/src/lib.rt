@@ -91,7 +91,7 @@ fn is_over_age(m: Machine) -> bool
     (175 < m.charger.current.age) | (175 < m.charger.voltage.age)
 }
 
-// Whether a machine that is handed in is none: refusal 15.
+// Whether a machine that is handed in breaks a bound: refusal 15.
 pub fn is_bad(m: Machine) -> bool
     ensures { λ r. ⌜ r ≡ badMachine m ⌝ }
 {
@@ -111,7 +111,7 @@ pub fn empty_bay() -> Bay
     }
 }
 
-// One of two bays.
+// The bay a where c holds, else b.
 pub fn choose_bay(c: bool, a: Bay, b: Bay) -> Bay
     ensures { λ r. ⌜ r ≡ cond c a b ⌝ }
 {

@@ -5,7 +5,7 @@ use contract.Lifetimes.{Lfts}
 use borrow.Fn.Kinds.{PK, RK, Dens, resT, endedOf}
 use denote.Triple.Clauses.{AtExit}
 
--- whatever is given back for the same arguments, and whatever stands behind them at the end, is one
+-- for the same arguments one result; no function so far is lent anything, so there is nothing at exit (s, t) to speak of
 abbrev pub OneOutcome : (ps : List (PK 0)) (r : RK 0) → ((κs : Lfts 0) → Dens κs ps → resT r κs .Denot → AtExit (endedOf 0 ps r) κs → Type 0) → Type 0
 OneOutcome ps r Post =
     (κs : Lfts 0) (a : Dens κs ps) (x y : resT r κs .Denot) (s t : AtExit (endedOf 0 ps r) κs) → Post κs a x s → Post κs a y t → x ≡ y

@@ -62,6 +62,7 @@ pub struct Selector {
     pub next: u16,
 }
 
+// A shelf at one moment. AC and the notice stand behind the setup, where they fill the padding before the bays.
 pub struct Machine {
     pub setup: Setup,
     pub ac: bool,

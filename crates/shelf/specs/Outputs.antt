@@ -19,6 +19,6 @@ abbrev pub shown : Outputs → Shown
 shown (Drive milliamps millivolts notice) = drive milliamps millivolts notice
 shown (Refused why) = refused (numberOf why)
 
--- the output and the notice of a machine; 15 for a machine that is none
+-- the output and the notice of a machine; 15 for a machine that breaks a bound
 unfoldable pub chargeSpec : Machine → Shown
 chargeSpec m = if badMachine m then refused 15 else drive (output m .milliamps) (output m .millivolts) (m .notice)

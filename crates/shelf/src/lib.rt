@@ -51,7 +51,7 @@ pub fn step(machine: Machine, event: Event) -> Stepped
     }
 }
 
-// What the board needs after each step; 15 for a machine that is none.
+// What the board needs after each step; 15 for a machine that breaks a bound.
 pub fn charge(machine: Machine) -> Outputs
     ensures { λ r. ⌜ shown r ≡ chargeSpec machine ⌝ }
 {

@@ -58,21 +58,21 @@ pub fn names(n: u16, b: u8) -> bool
     is_named(n) & (b == bay_number(n))
 }
 
-// One of two values.
+// The value a where c holds, else b.
 pub fn choose(c: bool, a: u16, b: u16) -> u16
     ensures { λ r. ⌜ r ≡ cond c a b ⌝ }
 {
     if c { a } else { b }
 }
 
-// One of two truths.
+// The truth a where c holds, else b.
 pub fn choose_bool(c: bool, a: bool, b: bool) -> bool
     ensures { λ r. ⌜ r ≡ cond c a b ⌝ }
 {
     if c { a } else { b }
 }
 
-// A bit's value where it is on.
+// The value where it is on, else 0.
 pub fn flag(on: bool, value: u16) -> u16
     ensures { λ r. ⌜ (r ≡ cond on value 0) × (r ≤ value) ⌝ }
 {
