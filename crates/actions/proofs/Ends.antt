@@ -1,9 +1,7 @@
 -- How a step ends: an accepted event settles the machine, a refused one leaves it as it stood.
 use Prim.Native.Nat.{ℕ, zero, suc}
-use mathlib.Core.Path.{_≡_, refl, sym, _∙_}
+use mathlib.Core.Path.{_≡_, refl, sym}
 use mathlib.Core.Bool.{Bool, true, false, cond}
-use Rattle.model.specs.declared.Answer.{Answer}
-use Rattle.model.specs.declared.Answer.the-variants.{Done, Word, Refused}
 use Rattle.model.specs.declared.Machine.{Machine}
 use Rattle.model.specs.declared.Event.{Event}
 use Rattle.model.specs.declared.Stepped.{Stepped}
@@ -12,21 +10,16 @@ use Rattle.model.specs.Settling.{settle}
 use Rattle.model.specs.Reads.{isRead, wordShown}
 use Rattle.model.specs.Refusals.{fault}
 use Rattle.model.specs.Step.{told, reply, outcome}
-use Rattle.actions.specs.Meaning.{unsettled, meant, isAccepted, accepts, finished}
-
-as-said : (a : Answer) → accepts (said a) ≡ isAccepted a
-as-said Done = refl
-as-said (Word w) = refl
-as-said (Refused why) = refl
+use Rattle.actions.specs.Meaning.{unsettled, meant, accepts, finished}
 
 module _ (t : Stepped) where
-  pub settles : isAccepted (t .answer) ≡ true → told (record { answer = t .answer; machine = settle (t .machine) }) ≡ finished (told t)
+  pub settles : accepts (said (t .answer)) ≡ true → told (record { answer = t .answer; machine = settle (t .machine) }) ≡ finished (told t)
   unfolding told finished
-  settles q = sym (rw (as-said (t .answer) ∙ q))
+  settles q = sym (rw q)
 
-  pub stands : isAccepted (t .answer) ≡ false → told t ≡ finished (told t)
+  pub stands : accepts (said (t .answer)) ≡ false → told t ≡ finished (told t)
   unfolding told finished
-  stands q = sym (rw (as-said (t .answer) ∙ q))
+  stands q = sym (rw q)
 
 -- an accepted event's answer is no refusal
 replies : (m : Machine) (e : Event) → accepts (reply m e) ≡ true

@@ -19,10 +19,9 @@ use Rattle.model.specs.Machines.{act, withNotice}
 use Rattle.model.specs.Reads.{statusWord, stateShown, presetsShown, infoShown, isRead, wordShown}
 use Rattle.model.specs.Refusals.{supports, unsupportedBay, notChargingBay, oneBay, stateFormed, badNibble, smbElsewhere, notUsable, sameBay, wrongPresence, fault}
 use Rattle.model.specs.Step.{reply}
-use Rattle.model.proofs.Bools.{and-l}
+use Rattle.model.proofs.Bools.{and-l, eqb-self}
 use Rattle.machine.specs.ByNumber.{bayIn}
 use Rattle.charger.specs.ByEvent.{freshIf}
-use Rattle.charger.proofs.ByEvent.{same}
 use Rattle.charger.proofs.Afresh.{Quiet, fresh-or-kept}
 use Rattle.actions.specs.declared.Action.{Action}
 use Rattle.actions.specs.declared.Action.the-variants.{Insert, Remove, TakeSignal, TakeTerminal, Refuse}
@@ -116,7 +115,7 @@ Reads e = Quiet e × (is stateWord e ≡ false) × (is presetsWord e ≡ false) 
 
 keeps : (m : Machine) (e : Event) → Reads e → act m e ≡ withNotice m (cond (is stateRead e) false (m .notice))
 unfolding act baysAfter acAfter acArrives acGoes smbAfter powerAfter dropsCharge chargeAfter nextAfter noticeAfter connects fresh resets swapsAt freshIf
-keeps m e (q, s, p, a, b, w) = simp (fresh-or-kept e q, q .3, s, p, a, b, w, same)
+keeps m e (q, s, p, a, b, w) = simp (fresh-or-kept e q, q .3, s, p, a, b, w, eqb-self)
 
 shows : (m : Machine) (e : Event) (w : ℕ) → fault m e ≡ 0 → reply m e ≡ word w → Reads e → meant m e ≡ shownWith w (withNotice m (cond (is stateRead e) false (m .notice)))
 unfolding unsettled
@@ -168,18 +167,18 @@ at-a-bay m e b right a f r q = sym (by-fault m e _ f ∙ go (supports (m .setup)
     go true false h x = absurd (false≢true (h refl))
     go false t h x = refl
 
-pub on-insertion : (m : Machine) (b : ℕ) → meantBy m (decision.atBay m b false (Insert b)) ≡ meant m (Insertion b)
-unfolding decision.atBay meantBy tests
+pub on-insertion : (m : Machine) (b : ℕ) → meantBy m (decision.actionAtBay m b false (Insert b)) ≡ meant m (Insertion b)
+unfolding decision.actionAtBay meantBy tests
 on-insertion m b = at-a-bay m (Insertion b) b not (Insert b) (simp (or-false, Bool·not-not)) refl refl
 
-pub on-removal : (m : Machine) (b : ℕ) → meantBy m (decision.atBay m b true (Remove b)) ≡ meant m (Removal b)
-unfolding decision.atBay meantBy tests
+pub on-removal : (m : Machine) (b : ℕ) → meantBy m (decision.actionAtBay m b true (Remove b)) ≡ meant m (Removal b)
+unfolding decision.actionAtBay meantBy tests
 on-removal m b = at-a-bay m (Removal b) b (λ p. p) (Remove b) refl refl refl
 
-pub on-signal : (m : Machine) (b ohms : ℕ) → meantBy m (decision.atBay m b true (TakeSignal b ohms)) ≡ meant m (Signal b ohms)
-unfolding decision.atBay meantBy tests
+pub on-signal : (m : Machine) (b ohms : ℕ) → meantBy m (decision.actionAtBay m b true (TakeSignal b ohms)) ≡ meant m (Signal b ohms)
+unfolding decision.actionAtBay meantBy tests
 on-signal m b ohms = at-a-bay m (Signal b ohms) b (λ p. p) (TakeSignal b ohms) refl refl refl
 
-pub on-terminal : (m : Machine) (b v : ℕ) → meantBy m (decision.atBay m b true (TakeTerminal b v)) ≡ meant m (Terminal b v)
-unfolding decision.atBay meantBy tests
+pub on-terminal : (m : Machine) (b v : ℕ) → meantBy m (decision.actionAtBay m b true (TakeTerminal b v)) ≡ meant m (Terminal b v)
+unfolding decision.actionAtBay meantBy tests
 on-terminal m b v = at-a-bay m (Terminal b v) b (λ p. p) (TakeTerminal b v) refl refl refl

@@ -84,7 +84,7 @@ module _ (m : Machine) (a c : ℕ) where
 
 module _ (m : Machine) (b c w : ℕ) where
   abbrev Sent : Type 0
-  Sent = meantBy m (decision.fromBay m b c w) ≡ meant m (BayWord b c w)
+  Sent = meantBy m (decision.wordFromBay m b c w) ≡ meant m (BayWord b c w)
 
   -- a word that exists
   known : (a : Action) →
@@ -95,7 +95,7 @@ module _ (m : Machine) (b c w : ℕ) where
       chosen 2 0x12 c w ≡ a →
       chosen 3 0x12 c w ≡ Refuse NotChargingBay →
       Sent
-  unfolding decision.fromBay decision.senderAt unsettled meantBy bayIn
+  unfolding decision.wordFromBay decision.senderAt unsettled meantBy bayIn
   known a f r q heard other =
       sym (by-fault m (BayWord b c w) _ f ∙ go (supports (m .setup) b) (ltb b 4) (supports-small (m .setup) b) (bayAt (m .bays) b) (names (m .selector .charge) b))
     where
@@ -113,7 +113,7 @@ module _ (m : Machine) (b c w : ℕ) where
 
   -- a word that does not
   unknown : bayWrites c ≡ noSuchWord → chosen 2 0x12 c w ≡ Refuse NoSuchWord → chosen 3 0x12 c w ≡ Refuse NoSuchWord → Sent
-  unfolding decision.fromBay decision.senderAt meant unsettled meantBy tests
+  unfolding decision.wordFromBay decision.senderAt meant unsettled meantBy tests
   unknown k heard other = rw (k, choose (λ s. chosen s 0x12 c w ≡ Refuse NoSuchWord) _ 2 3 (λ _. heard) (λ _. other)) (go (supports (m .setup) b))
     where
       go : (s : Bool) → meantBy m (cond s (Refuse NoSuchWord) (Refuse UnsupportedBay)) ≡ unsettled (cond (not s) 2 3) m (BayWord b c w)

@@ -48,12 +48,12 @@ unfoldable pub senderAt : Machine → ℕ → ℕ
 senderAt m b = if bayIn (m .bays) b .present && names (m .selector .charge) b then 2 else 3
 
 -- a bay's word: 2 where the bay is not supported
-unfoldable pub fromBay : Machine → ℕ → ℕ → ℕ → Action
-fromBay m b c w = if supports (m .setup) b then chosen (senderAt m b) 0x12 c w else Refuse UnsupportedBay
+unfoldable pub wordFromBay : Machine → ℕ → ℕ → ℕ → Action
+wordFromBay m b c w = if supports (m .setup) b then chosen (senderAt m b) 0x12 c w else Refuse UnsupportedBay
 
 -- an action at a bay that has to hold a pack, or has to be empty: 2 where the bay is not supported, 9 where it is the other
-unfoldable pub atBay : Machine → ℕ → Bool → Action → Action
-atBay m b full a =
+unfoldable pub actionAtBay : Machine → ℕ → Bool → Action → Action
+actionAtBay m b full a =
     if supports (m .setup) b then
     if (if full then bayIn (m .bays) b .present else not (bayIn (m .bays) b .present)) then a
     else Refuse WrongPresence
@@ -63,10 +63,10 @@ atBay m b full a =
 abbrev pub decided : Machine → Event → Action
 decided m (HostWrite address code w) = chosen 0 address code w
 decided m (HostRead address code) = chosen 1 address code 0
-decided m (BayWord b code w) = fromBay m b code w
-decided m (Insertion b) = atBay m b false (Insert b)
-decided m (Removal b) = atBay m b true (Remove b)
-decided m (Signal b ohms) = atBay m b true (TakeSignal b ohms)
-decided m (Terminal b millivolts) = atBay m b true (TakeTerminal b millivolts)
+decided m (BayWord b code w) = wordFromBay m b code w
+decided m (Insertion b) = actionAtBay m b false (Insert b)
+decided m (Removal b) = actionAtBay m b true (Remove b)
+decided m (Signal b ohms) = actionAtBay m b true (TakeSignal b ohms)
+decided m (Terminal b millivolts) = actionAtBay m b true (TakeTerminal b millivolts)
 decided m (Ac present) = SetAc present
 decided m Tick = Age

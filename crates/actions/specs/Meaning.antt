@@ -4,8 +4,6 @@ use mathlib.Core.Bool.{Bool, true, false}
 use Rattle.model.specs.declared.Machine.{Machine}
 use Rattle.model.specs.declared.Event.{Event}
 use Rattle.model.specs.declared.Event.the-variants.{HostWrite, Insertion, Removal, Signal, Terminal, Ac, Tick}
-use Rattle.model.specs.declared.Answer.{Answer}
-use Rattle.model.specs.declared.Answer.the-variants.{Done, Word, Refused}
 use Rattle.model.specs.If.{if_then_else_}
 use Rattle.model.specs.Numbers.{Said, done, word, refused, numberOf}
 use Rattle.model.specs.Machines.{act, withNotice}
@@ -59,12 +57,6 @@ meantBy m Age = doneWith (act m Tick)
 meantBy m (Refuse why) = refusedWith (numberOf why) m
 
 -- the answer is no refusal
-abbrev pub isAccepted : Answer → Bool
-isAccepted Done = true
-isAccepted (Word w) = true
-isAccepted (Refused why) = false
-
--- the same of the paper's value
 abbrev pub accepts : Said → Bool
 accepts done = true
 accepts (word w) = true

@@ -7,9 +7,10 @@ use model::Stepped;
 ghost use mathlib.Core.Path.{_≡_};
 ghost use Rattle.model.specs.declared.Answer.the-variants as answer;
 ghost use Rattle.model.specs.declared.Event.the-variants as event;
+ghost use Rattle.model.specs.Numbers.{said};
 ghost use Rattle.model.specs.Step.{told};
-ghost use Rattle.actions.specs.Meaning.{meant, meantBy, finished, isAccepted};
-ghost use Rattle.actions.specs.Decision.{keyOf, chosen, senderAt, fromBay, atBay, decided};
+ghost use Rattle.actions.specs.Meaning.{meant, meantBy, finished, accepts};
+ghost use Rattle.actions.specs.Decision.{keyOf, chosen, senderAt, wordFromBay, actionAtBay, decided};
 
 // One action for each register and each thing that can happen, with what it needs; or the refusal.
 pub enum Action {
@@ -93,7 +94,7 @@ fn sender_of(m: Machine, b: u8) -> u8
 
 // A bay's word: 2 where the bay is not supported, then the decision.
 fn from_bay(m: Machine, b: u8, code: u8, word: u16) -> Action
-    ensures { λ r. ⌜ r ≡ fromBay m b code word ⌝ }
+    ensures { λ r. ⌜ r ≡ wordFromBay m b code word ⌝ }
 {
     if machine::is_supported(m.setup, b) {
         choose(sender_of(m, b), CHARGER, code, word)
@@ -104,7 +105,7 @@ fn from_bay(m: Machine, b: u8, code: u8, word: u16) -> Action
 
 // An action at a bay that has to hold a pack, or has to be empty: 2 where the bay is not supported, then 9.
 fn at_bay(m: Machine, b: u8, full: bool, then: Action) -> Action
-    ensures { λ r. ⌜ r ≡ atBay m b full then ⌝ }
+    ensures { λ r. ⌜ r ≡ actionAtBay m b full then ⌝ }
 {
     let bays = m.bays;
     let present = machine::is_present(bays, b);
@@ -230,7 +231,7 @@ pub fn perform(m: Machine, a: Action) -> Stepped
 
 // Whether an answer is no refusal.
 fn is_accepted(a: Answer) -> bool
-    ensures { λ r. ⌜ r ≡ isAccepted a ⌝ }
+    ensures { λ r. ⌜ r ≡ accepts (said a) ⌝ }
 {
     match a {
         Answer::Done => true,

@@ -12,8 +12,8 @@ use Rattle.model.specs.Events.{kindOf, kindNumber, is, atBay, swaps, swapsAt, s
 use Rattle.model.specs.SelectorRules.{acAfter, acArrives, acGoes, smbAfter, powerAfter, dropsCharge, chargeAfter, nextAfter, noticeAfter}
 use Rattle.model.specs.ChargerRules.{fresh}
 use Rattle.model.specs.Machines.{withBays, act}
+use Rattle.model.proofs.Bools.{eqb-self}
 use Rattle.model.proofs.Computes.{computes}
-use Rattle.charger.proofs.ByEvent.{same}
 use Rattle.charger.proofs.Afresh.{fresh-or-kept}
 use Rattle.bays.specs.ByEvent.{newPack, withBay, swapped, signalRead, terminalRead, acSet}
 
@@ -21,11 +21,11 @@ use Rattle.bays.specs.ByEvent.{newPack, withBay, swapped, signalRead, te
 
 pub on-insertion : (m : Machine) (b : ℕ) → act m (Insertion b) ≡ swapped m b newPack
 unfolding computes swapped withBay
-on-insertion m b = simp (same, fresh-or-kept (Insertion b) (refl, refl, refl, refl, refl))
+on-insertion m b = simp (eqb-self, fresh-or-kept (Insertion b) (refl, refl, refl, refl, refl))
 
 pub on-removal : (m : Machine) (b : ℕ) → act m (Removal b) ≡ swapped m b emptyBay
 unfolding computes swapped withBay
-on-removal m b = simp (same, fresh-or-kept (Removal b) (refl, refl, refl, refl, refl))
+on-removal m b = simp (eqb-self, fresh-or-kept (Removal b) (refl, refl, refl, refl, refl))
 
 -- a pack's signal and terminal voltage
 
@@ -44,12 +44,12 @@ terminal-here false s b v bay = refl
 pub on-signal : (m : Machine) (b ohms : ℕ) →
     act m (Signal b ohms) ≡ withBays m (fourBays (λ k. signalRead (eqb b k) (bayAt (m .bays) k) ohms))
 unfolding computes
-on-signal m b ohms = simp (same, signal-here)
+on-signal m b ohms = simp (eqb-self, signal-here)
 
 pub on-terminal : (m : Machine) (b v : ℕ) →
     act m (Terminal b v) ≡ withBays m (fourBays (λ k. terminalRead (eqb b k) (m .setup) (bayAt (m .bays) k) v))
 unfolding computes
-on-terminal m b v = simp (same, terminal-here)
+on-terminal m b v = simp (eqb-self, terminal-here)
 
 -- AC
 
@@ -68,7 +68,7 @@ arrives m p = rw (says p)
 
 fresh-ac : (m : Machine) (p : Bool) → fresh m (Ac p) ≡ (m .ac && not p)
 unfolding fresh resets chargeAfter connects dropsCharge swapsAt swaps is kindOf kindNumber
-fresh-ac m p = simp (goes, same, or-false)
+fresh-ac m p = simp (goes, eqb-self, or-false)
 
 either : (a b n : Bool) → cond a true (cond b true n) ≡ (a || b || n)
 either true b n = refl

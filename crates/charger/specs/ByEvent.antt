@@ -23,16 +23,16 @@ freshIf start c =
     }
 
 -- 0x14, 0x15: a request that was just written
-abbrev pub asked : ℕ → Request
-asked w = record { word = w; age = 0; mark = true }
+abbrev pub justAsked : ℕ → Request
+justAsked w = record { word = w; age = 0; mark = true }
 
 -- 0x14: the hold is lifted if the voltage was rewritten too
 unfoldable pub currentSet : Charger → ℕ → Charger
-currentSet c w = record { current = asked w; voltage = c .voltage; hold = if c .voltage .mark then false else c .hold; inhibit = c .inhibit }
+currentSet c w = record { current = justAsked w; voltage = c .voltage; hold = if c .voltage .mark then false else c .hold; inhibit = c .inhibit }
 
 -- 0x15: the hold is lifted if the current was rewritten too
 unfoldable pub voltageSet : Charger → ℕ → Charger
-voltageSet c w = record { current = c .current; voltage = asked w; hold = if c .current .mark then false else c .hold; inhibit = c .inhibit }
+voltageSet c w = record { current = c .current; voltage = justAsked w; hold = if c .current .mark then false else c .hold; inhibit = c .inhibit }
 
 -- 0x16: an alarm clears a rewrite mark
 abbrev pub remarked : Bool → Request → Request

@@ -11,7 +11,7 @@ ghost use Rattle.model.specs.declared.Event.the-variants as event;
 ghost use Rattle.model.specs.ChargerRules as rules;
 ghost use Rattle.model.specs.Machines.{act};
 ghost use Rattle.model.specs.Reads.{charging, output, aboveLargest, signalBits, statusWord};
-ghost use Rattle.charger.specs.ByEvent.{droppedIf, freshIf, asked, currentSet, voltageSet, remarked, alarmSet, aged, ticked, zeroed, modeSet};
+ghost use Rattle.charger.specs.ByEvent.{droppedIf, freshIf, justAsked, currentSet, voltageSet, remarked, alarmSet, aged, ticked, zeroed, modeSet};
 
 // A request, cleared where the event is a fresh start.
 fn drop_if(start: bool, q: Request) -> Request
@@ -49,7 +49,7 @@ fn same(kept: Request) -> Request
 
 // A request that was just written.
 fn ask(word: u16) -> Request
-    ensures { λ r. ⌜ r ≡ asked word ⌝ }
+    ensures { λ r. ⌜ r ≡ justAsked word ⌝ }
 {
     Request {
         word: word,

@@ -3,9 +3,7 @@ use Prim.Native.Nat.{ℕ, _≤_, _<_}
 use mathlib.Core.Path.{_≡_, refl}
 use mathlib.Core.Bool.{Bool, true, false, cond, _||_}
 use mathlib.Core.List.{List}
-use native.Mathlib.Nat.{div-eq-of-lt, lt-of-lt-of-le}
 use lib.Dec.{ltb, eqb}
-use lib.Pow.{pow-mono}
 use borrow.Author.Tests.{ltb-true, ltb-false}
 use Rattle.model.specs.declared.Bay.{Bay}
 use Rattle.model.specs.declared.Setup.{Setup}
@@ -15,7 +13,7 @@ use Rattle.model.specs.Reads.{presentNibble}
 use Rattle.model.specs.Refusals.{supports, oneBay}
 use Rattle.words.specs.Masks.{among, oneOf}
 use Rattle.words.proofs.Below.{by-test}
-use Rattle.words.proofs.OneBit.{bay-ltb}
+use Rattle.words.proofs.OneBit.{bay-ltb, past-end}
 use Rattle.words.proofs.Masks.{bit-four, four-lt}
 use Rattle.machine.specs.ByNumber.{bayIn}
 
@@ -27,7 +25,7 @@ one-supported s n = simp bay-ltb
 -- a nibble has no bit past its four
 past-four : (n b : ℕ) → n < 16 → 4 ≤ b → bit b n ≡ false
 unfolding bit
-past-four n b l h = rw (div-eq-of-lt (lt-of-lt-of-le l (pow-mono h)))
+past-four n b l h = rw (past-end 4 b n h l)
 
 -- bay b holds a pack
 pub present-in : (bays : List Bay) (b : ℕ) → bit b (presentNibble bays) ≡ bayIn bays b .present

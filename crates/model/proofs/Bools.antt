@@ -1,5 +1,8 @@
 -- Tests: what a conjunction, a disjunction and a choice tell.
+use Prim.Native.Nat.{ℕ}
 use mathlib.Core.Path.{_≡_, refl}
+use lib.Dec.{eqb}
+use borrow.Author.Tests.{eq-eqb}
 use mathlib.Core.Bool.{Bool, true, false, cond, _&&_, _||_, true≢false, false≢true, and-false}
 
 pub cond-same : {A : Type 0} (b : Bool) (n : A) → cond b n n ≡ n
@@ -38,3 +41,7 @@ and-then false b q p = absurd (false≢true p)
 pub and-swap : (a b c : Bool) → (a && (b && c)) ≡ (b && (a && c))
 and-swap true b c = refl
 and-swap false b c = rw and-false
+
+-- a number is itself
+pub eqb-self : (n : ℕ) → eqb n n ≡ true
+eqb-self n = eq-eqb n n refl

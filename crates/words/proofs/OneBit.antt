@@ -54,6 +54,6 @@ bay-none n e = go (eqb n 1) (eqb n 2) (eqb n 4) (eqb n 8) e
 pub bay-ltb : (n : ℕ) → ltb (bayNumber n) 4 ≡ true
 bay-ltb n = lt-ltb _ 4 (number-small n)
 
--- a word has nothing past its 16 bits
-pub past-end : (k w : ℕ) → 16 ≤ k → w < 2 ^ 16 → w / 2 ^ k ≡ 0
-past-end k w h l = div-eq-of-lt (lt-of-lt-of-le l (pow-mono h))
+-- a number has nothing past its bits
+pub past-end : (j k w : ℕ) → j ≤ k → w < 2 ^ j → w / 2 ^ k ≡ 0
+past-end j k w h l = div-eq-of-lt (lt-of-lt-of-le l (pow-mono h))

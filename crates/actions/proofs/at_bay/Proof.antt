@@ -1,9 +1,9 @@
-use Rattle.actions.specs.Decision.{atBay}
+use Rattle.actions.specs.Decision.{actionAtBay}
 use Rattle.actions.proofs.at_bay.Statement.{statement}
 use Rattle.actions.proofs.at_bay.Tie as tie
 
 returns : tie.Need-returns
-unfolding atBay
+unfolding actionAtBay
 returns c =
     let c1 = c .before in
     let c2 = c1 .before in
@@ -12,7 +12,7 @@ returns c =
     simp (c .if2 .taken, ← c1 .choose-bool .ensures, c2 .if1 .taken, ← c3 .is-supported .ensures, ← c4 .is-present .ensures)
 
 returns-2 : tie.Need-returns-2
-unfolding atBay
+unfolding actionAtBay
 returns-2 c =
     let c1 = c .before in
     let c2 = c1 .before in
@@ -21,7 +21,7 @@ returns-2 c =
     simp (c .if2 .left, ← c1 .choose-bool .ensures, c2 .if1 .taken, ← c3 .is-supported .ensures, ← c4 .is-present .ensures)
 
 returns-3 : tie.Need-returns-3
-unfolding atBay
+unfolding actionAtBay
 returns-3 c =
     let c1 = c .before in
     let c2 = c1 .before in

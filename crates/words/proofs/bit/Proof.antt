@@ -13,7 +13,7 @@ returns c = let a = c .before .args in simp (and-mask (a .word / 2 ^ a .k) 1)
 
 returns-2 : tie.Need-returns-2
 unfolding words.bit
-returns-2 c = let a = c .before .args in simp (past-end (a .k) (a .word) (c .if1 .left) (omega arith))
+returns-2 c = let a = c .before .args in simp (past-end 16 (a .k) (a .word) (c .if1 .left) (omega arith))
 
 pub bit-spec : {M : Type 1} → statement M
 bit-spec = tie.close (tie.spec (λ c. search needs) returns returns-2)

@@ -16,7 +16,7 @@ returns c =
 
 returns-2 : tie.Need-returns-2
 unfolding words.nibble
-returns-2 c = let a = c .before .args in (simp (past-end (a .k) (a .word) (c .if1 .left) (omega arith)), search needs)
+returns-2 c = let a = c .before .args in (simp (past-end 16 (a .k) (a .word) (c .if1 .left) (omega arith)), search needs)
 
 pub nibble-spec : {M : Type 1} → statement M
 nibble-spec = tie.close (tie.spec (λ c. search needs) returns returns-2)
