@@ -1,4 +1,5 @@
-use mathlib.Core.Path.{sym, _∙_}
+use Rattle.actions.specs.Meaning.{meantBy, finished}
+use mathlib.Core.Path.{sym, _∙_, ap}
 use Rattle.model.specs.Step.{told}
 use Rattle.shelf.proofs.Steps.{of-bad, of-good}
 use Rattle.shelf.proofs.step.Statement.{statement}
@@ -14,8 +15,9 @@ returns-2 : tie.Need-returns-2
 returns-2 c =
     let b = c .before .before .before .before in
     let a = b .before .args in
-    simp (c .finish .ensures, c .before .perform .ensures, c .before .before .decide .ensures)
-    (of-good (a .machine) (a .event) (sym (b .is-bad .ensures) ∙ c .before .before .before .if1 .left))
+    c .finish .ensures
+    ∙ ap finished (c .before .perform .ensures ∙ ap (meantBy (a .machine)) (c .before .before .decide .ensures))
+    ∙ of-good (a .machine) (a .event) (sym (b .is-bad .ensures) ∙ c .before .before .before .if1 .left)
 
 pub step-spec : {M : Type 1} → statement M
 step-spec =
