@@ -6,7 +6,8 @@ use contract.Lifetimes.{Lfts}
 use borrow.Fn.Kinds.{PK, RK, Dens, resT, endedOf}
 use denote.Triple.Clauses.{AtExit}
 
--- for the same arguments any two outcomes are the same one: results x and y, and what was lent at exit, s and t
+-- for the same arguments any two outcomes are one. n counts the loans that the function's parameters name. An outcome is a result, x or
+-- y, and what was lent as it is at exit, s or t; `Same` says when two of them count as one, and has to speak of all that a caller can see
 abbrev pub NoTwoOutcomes : (n : ℕ) (ps : List (PK n)) (r : RK n) → ((κs : Lfts n) → Dens κs ps → resT r κs .Denot → AtExit (endedOf n ps r) κs → Type 0)
     → ((κs : Lfts n) → resT r κs .Denot → resT r κs .Denot → AtExit (endedOf n ps r) κs → AtExit (endedOf n ps r) κs → Type 0) → Type 0
 NoTwoOutcomes n ps r Post Same =
