@@ -13,7 +13,7 @@ use Rattle.model.specs.Events.{Kind, kindNumber, currentWord, voltageWor
 use Rattle.model.specs.Promises.{RefusalsApart, AnswersApart, StepsApart, KindsApart}
 
 -- what has an inverse keeps different things apart
-apart : {A B : Type 0} (f : A → B) (g : B → A) → ((x : A) → g (f x) ≡ x) → (x y : A) → f x ≡ f y → x ≡ y
+pub apart : {A B : Type 0} (f : A → B) (g : B → A) → ((x : A) → g (f x) ≡ x) → (x y : A) → f x ≡ f y → x ≡ y
 apart f g back x y q = sym (back x) ∙ ap g q ∙ back y
 
 -- refusals, the first at 1
@@ -38,10 +38,10 @@ refusals =
     ∷ BadMachine
     ∷ []
 
-refusalAt : ℕ → Refusal
+pub refusalAt : ℕ → Refusal
 refusalAt n = getD refusals n BadSetup
 
-refusal-back : (r : Refusal) → refusalAt (numberOf r) ≡ r
+pub refusal-back : (r : Refusal) → refusalAt (numberOf r) ≡ r
 unfolding refusalAt refusals
 refusal-back BadSetup = refl
 refusal-back UnsupportedBay = refl

@@ -1,9 +1,7 @@
 -- No two outcomes fit the contract of a function of the face.
-use Prim.Native.Nat.{ℕ}
-use mathlib.Core.Path.{_≡_, sym, _∙_, ap}
-use native.Mathlib.Omega.{arith}
+use mathlib.Core.Path.{_≡_, refl, sym, _∙_, ap}
 use Rattle.model.proofs.Outcomes.{OneOutcome}
-use Rattle.model.proofs.Numbers.{refusals-apart, steps-apart}
+use Rattle.model.proofs.Numbers.{apart, refusalAt, refusal-back, steps-apart}
 use Rattle.shelf.specs.declared.Outputs.{Outputs}
 use Rattle.shelf.specs.declared.Outputs.the-variants.{Drive, Refused}
 use Rattle.shelf.specs.Outputs.{Shown, drive, refused, shown}
@@ -21,16 +19,14 @@ pub step-one : OneOutcome step-kinds.ps step-kinds.r step-reads.Post
 step-one κs a x y s t p q = steps-apart x y (p ∙ sym q)
 
 -- no two outputs are shown alike
-numberShown : Shown → ℕ
-numberShown (drive milliamps millivolts notice) = 0
-numberShown (refused n) = n
+outputsOf : Shown → Outputs
+outputsOf (drive milliamps millivolts notice) = Drive milliamps millivolts notice
+outputsOf (refused n) = Refused (refusalAt n)
 
-outputs-apart : (r q : Outputs) → shown r ≡ shown q → r ≡ q
-unfolding numberShown
-outputs-apart (Drive a b n) (Drive x y z) p = cc
-outputs-apart (Drive a b n) (Refused why) p = let z : _≡_ {A = ℕ} 0 1 = cc in absurd (omega arith)
-outputs-apart (Refused why) (Drive a b n) p = let z : _≡_ {A = ℕ} 0 1 = cc in absurd (omega arith)
-outputs-apart (Refused why) (Refused because) p = ap Refused (refusals-apart why because (ap numberShown p))
+outputs-back : (r : Outputs) → outputsOf (shown r) ≡ r
+unfolding outputsOf
+outputs-back (Drive milliamps millivolts notice) = refl
+outputs-back (Refused why) = ap Refused (refusal-back why)
 
 pub charge-one : OneOutcome charge-kinds.ps charge-kinds.r charge-reads.Post
-charge-one κs a x y s t p q = outputs-apart x y (p ∙ sym q)
+charge-one κs a x y s t p q = apart shown outputsOf outputs-back x y (p ∙ sym q)
