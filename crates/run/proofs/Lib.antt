@@ -1,0 +1,5 @@
+pub mod ByComputing
+pub mod Going
+pub mod Start
+pub mod Theorems
+pub mod Unique
