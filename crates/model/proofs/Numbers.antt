@@ -1,10 +1,9 @@
 -- No two refusals have one number, no two answers one value and no two kinds of event one number: each has an inverse.
-use Prim.Native.Nat.{ℕ}
+use Prim.Native.Nat.{ℕ, _≤_, _<_}
+use native.Mathlib.Omega.{arith}
 use mathlib.Core.Path.{_≡_, refl, sym, _∙_, ap}
-use mathlib.Core.Bool.{false}
 use mathlib.Core.List.{List, [], _∷_}
 use lib.ListN.{getD}
-use lib.Dec.{eqb}
 use Rattle.model.specs.declared.Refusal.{Refusal}
 use Rattle.model.specs.declared.Refusal.the-variants.{BadSetup, UnsupportedBay, NoSuchWord, NotChargingBay, BadNibble, SmbElsewhere, NotUsable, SameBay, WrongPresence, RecordCutOff, BadLength, UnknownKind, BadAcByte, NoRoom, BadMachine}
 use Rattle.model.specs.declared.Answer.{Answer}
@@ -61,23 +60,23 @@ refusal-back BadAcByte = refl
 refusal-back NoRoom = refl
 refusal-back BadMachine = refl
 
--- 0 is the number of none
-pub never-0 : (r : Refusal) → eqb (numberOf r) 0 ≡ false
-never-0 BadSetup = refl
-never-0 UnsupportedBay = refl
-never-0 NoSuchWord = refl
-never-0 NotChargingBay = refl
-never-0 BadNibble = refl
-never-0 SmbElsewhere = refl
-never-0 NotUsable = refl
-never-0 SameBay = refl
-never-0 WrongPresence = refl
-never-0 RecordCutOff = refl
-never-0 BadLength = refl
-never-0 UnknownKind = refl
-never-0 BadAcByte = refl
-never-0 NoRoom = refl
-never-0 BadMachine = refl
+-- the numbers are 1 to 15; 0 is the number of none
+pub one-to-15 : (r : Refusal) → (0 < numberOf r) × (numberOf r ≤ 15)
+one-to-15 BadSetup = (omega arith, omega arith)
+one-to-15 UnsupportedBay = (omega arith, omega arith)
+one-to-15 NoSuchWord = (omega arith, omega arith)
+one-to-15 NotChargingBay = (omega arith, omega arith)
+one-to-15 BadNibble = (omega arith, omega arith)
+one-to-15 SmbElsewhere = (omega arith, omega arith)
+one-to-15 NotUsable = (omega arith, omega arith)
+one-to-15 SameBay = (omega arith, omega arith)
+one-to-15 WrongPresence = (omega arith, omega arith)
+one-to-15 RecordCutOff = (omega arith, omega arith)
+one-to-15 BadLength = (omega arith, omega arith)
+one-to-15 UnknownKind = (omega arith, omega arith)
+one-to-15 BadAcByte = (omega arith, omega arith)
+one-to-15 NoRoom = (omega arith, omega arith)
+one-to-15 BadMachine = (omega arith, omega arith)
 
 pub refusals-apart : RefusalsApart
 refusals-apart = apart numberOf refusalAt refusal-back
