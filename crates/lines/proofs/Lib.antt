@@ -6,3 +6,4 @@ pub mod Room
 pub mod Chained
 pub mod Fit
 pub mod Theorems
+pub mod Unique
