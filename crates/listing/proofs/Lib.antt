@@ -1,0 +1,6 @@
+pub mod ByComputing
+pub mod Pieces
+pub mod Entry
+pub mod Order
+pub mod Theorems
+pub mod Unique
