@@ -2,5 +2,6 @@ pub mod ByComputing
 pub mod Pieces
 pub mod Entry
 pub mod Order
+pub mod Inside
 pub mod Theorems
 pub mod Unique
