@@ -100,8 +100,8 @@ fn power_on_of(s: Setup) -> Machine
     }
 }
 
-// The setup that a refused one falls back to.
-fn program_setup() -> Setup
+// The setup of the program, to which a refused one falls back.
+pub fn program_setup() -> Setup
     ensures { λ r. ⌜ r ≡ programSetup ⌝ }
 {
     let current = Limit {
