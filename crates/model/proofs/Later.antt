@@ -24,7 +24,7 @@ use Rattle.model.proofs.Heard.{ticks-and-ac-heard}
 
 -- the machine and the past of a list that goes on
 
-run-on : (m : Machine) (es later : List Event) → runFrom m (es ++ later) ≡ runFrom (runFrom m es) later
+pub run-on : (m : Machine) (es later : List Event) → runFrom m (es ++ later) ≡ runFrom (runFrom m es) later
 unfolding runFrom
 run-on m [] later = refl
 run-on m (e ∷ es) later = run-on (stepSpec m e .machine) es later

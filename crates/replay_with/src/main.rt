@@ -13,23 +13,23 @@ use model::Setup;
 
 fn main() {
     let bays = argument(1, b"bays");
-    let most_ma = argument(2, b"largest mA");
+    let largest_ma = argument(2, b"largest mA");
     let safe_ma = argument(3, b"safe mA");
-    let most_mv = argument(4, b"largest mV");
+    let largest_mv = argument(4, b"largest mV");
     let safe_mv = argument(5, b"safe mV");
     let low = argument(6, b"low mV");
     let restart = argument(7, b"restart mV");
-    let are_limits = most_ma.is_good & safe_ma.is_good & most_mv.is_good & safe_mv.is_good;
+    let are_limits = largest_ma.is_good & safe_ma.is_good & largest_mv.is_good & safe_mv.is_good;
     if !(bays.is_good & are_limits & low.is_good & restart.is_good & are_seven()) {
         say_usage();
         return;
     }
     let current = Limit {
-        largest: most_ma.word,
+        largest: largest_ma.word,
         safe: safe_ma.word,
     };
     let voltage = Limit {
-        largest: most_mv.word,
+        largest: largest_mv.word,
         safe: safe_mv.word,
     };
     let setup = Setup {

@@ -1,3 +1,4 @@
 -- In the order to read them.
 pub mod Reached
 pub mod Promises
+pub mod Going
