@@ -1,7 +1,5 @@
 // Prints the listing of the log on standard input, under a setup that seven arguments give: the supported bays as a nibble, largest and
 // safe mA, largest and safe mV, low and restart level in mV.
-mod figures;
-
 use figures::Figure;
 use figures::figure_in;
 use figures::no_figure;

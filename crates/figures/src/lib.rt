@@ -1,7 +1,7 @@
-// Decimal numbers as arguments give them.
+// Decimal numbers as the arguments of a program give them.
 ghost use mathlib.Core.Path.{_≡_};
 ghost use Prim.Native.Nat.{_+_, _-_, _*_, _≤_, min};
-ghost use Rattle.replay_with.specs.Figures.{isDigit, wordFor, noFigure, figureOf};
+ghost use Rattle.figures.specs.Figures.{isDigit, wordFor, noFigure, figureOf};
 
 // A number of a setup, if the text is one. 0 stands for a number above 65535, since a setup with 0 in any place is refused as that
 // number is.

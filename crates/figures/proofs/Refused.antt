@@ -6,8 +6,8 @@ use mathlib.Core.Bool.{Bool, true, false, _&&_, _||_}
 use lib.Dec.{eqb, leb, ltb}
 use borrow.Author.Tests.{ne-eqb, lt-leb, le-ltb, leb-true, leb-false}
 use Rattle.model.specs.Refusals.{goodLimit, goodSetup}
-use Rattle.replay_with.specs.Figures.{wordFor}
-use Rattle.replay_with.specs.Promises.{LargeNumbersRefused}
+use Rattle.figures.specs.Figures.{wordFor}
+use Rattle.figures.specs.Promises.{LargeNumbersRefused}
 
 -- a number is its word, or too large
 which : {Q : Type 0} (n : ℕ) → (wordFor n ≡ n → n ≤ 65535 → Q) → (wordFor n ≡ 0 → 65535 < n → Q) → Q

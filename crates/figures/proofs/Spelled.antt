@@ -12,7 +12,7 @@ use borrow.Author.Tests.{eq-eqb, ne-eqb, leb-true, leb-false, lt-leb}
 use Rattle.model.proofs.Bools.{and-l, and-r}
 use Rattle.lines.specs.Text.{byte, valueFrom}
 use Rattle.lines.proofs.ReadBack.{value-last}
-use Rattle.replay_with.specs.Figures.{isDigit, allDigits, wordFor, noFigure, figureOf}
+use Rattle.figures.specs.Figures.{isDigit, allDigits, wordFor, noFigure, figureOf}
 
 -- the first i bytes of t are digits, and value is their number, held at 65536
 pub record Spelled (t : List ℕ) (i value : ℕ) : Type 0 where

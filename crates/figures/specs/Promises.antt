@@ -3,7 +3,7 @@ use Prim.Native.Nat.{ℕ}
 use mathlib.Core.Path.{_≡_}
 use Rattle.model.specs.Machines.{setupOf}
 use Rattle.model.specs.Refusals.{goodSetup}
-use Rattle.replay_with.specs.Figures.{wordFor}
+use Rattle.figures.specs.Figures.{wordFor}
 
 -- a setup of any seven numbers is refused exactly where the setup of their words is: a number above 65535 is refused in every place
 abbrev pub LargeNumbersRefused : Type 0

@@ -1,8 +1,8 @@
 use borrow.Author.Tests.{le-leb, lt-leb}
-use Rattle.replay_with.specs.Figures.{wordFor}
+use Rattle.figures.specs.Figures.{wordFor}
 use borrow.Author.Needs.{needs}
-use Rattle.replay_with.proofs.figures.word_of.Statement.{statement}
-use Rattle.replay_with.proofs.figures.word_of.Tie as tie
+use Rattle.figures.proofs.word_of.Statement.{statement}
+use Rattle.figures.proofs.word_of.Tie as tie
 
 returns : tie.Need-returns
 unfolding wordFor

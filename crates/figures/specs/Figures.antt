@@ -6,7 +6,7 @@ use lib.ListN.{length}
 use lib.Dec.{eqb, leb}
 use Rattle.model.specs.If.{if_then_else_}
 use Rattle.lines.specs.Text.{valueFrom}
-use Rattle.replay_with.specs.declared.figures.Figure.{Figure}
+use Rattle.figures.specs.declared.Figure.{Figure}
 
 -- `0` to `9`
 unfoldable pub isDigit : ℕ → Bool

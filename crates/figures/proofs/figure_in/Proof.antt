@@ -2,9 +2,9 @@ use Prim.Native.Nat.{_-_}
 use native.Mathlib.Omega.{arith}
 use mathlib.Core.Path.{sym, _∙_}
 use lib.ListN.{length}
-use Rattle.replay_with.proofs.Spelled.{Spelled, starts, low-byte, goes-on, stops, ends, none-there}
-use Rattle.replay_with.proofs.figures.figure_in.Statement.{statement}
-use Rattle.replay_with.proofs.figures.figure_in.Tie as tie
+use Rattle.figures.proofs.Spelled.{Spelled, starts, low-byte, goes-on, stops, ends, none-there}
+use Rattle.figures.proofs.figure_in.Statement.{statement}
+use Rattle.figures.proofs.figure_in.Tie as tie
 
 abbrev Inv-loop : tie.InvT-loop
 Inv-loop text value₀ i₀ value i = Spelled text i value
