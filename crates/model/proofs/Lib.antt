@@ -20,4 +20,3 @@ pub mod Candidates
 pub mod Settled
 pub mod Theorems
 pub mod Outcomes
-pub mod Unique

@@ -217,7 +217,8 @@ selectorAtWork =
     ∷ row (Terminal 0 12000) (refused 9) 0 0 0
     -- USE_NEXT names two bays
     ∷ row (HostWrite 0x14 0x02 0x0033) (refused 5) 0 0 0
-    -- the order: 2 before 9, 3 before 4, 6 before 7, 7 before 8
+    -- the order: 2 before 3 and 9, 3 before 4, 6 before 7, 7 before 8
+    ∷ row (BayWord 2 0x12 0) (refused 2) 0 0 0
     ∷ row (Removal 2) (refused 2) 0 0 0
     ∷ row (BayWord 0 0x12 0) (refused 3) 0 0 0
     ∷ row (BayWord 0 0x14 1500) (refused 4) 0 0 0

@@ -39,7 +39,7 @@ fn read_from(bytes: &[u8], count: usize) {
             print::text(b" | taken");
             print::number(taken as u64);
         }
-        Found::Refused(why) => print::refused(model::number(why)),
+        Found::Refused(why) => print::refused(refusals::number(why)),
     }
     print::text(b" | body");
     print::bytes(reader::body(log));
@@ -87,6 +87,6 @@ fn write_into(bytes: &mut [u8], size: usize, place: usize, event: Event) {
     let written = writer::write(&mut bytes[0..size], place, event);
     match written {
         Written::UpTo(next) => print::number(next as u64),
-        Written::Refused(why) => print::refused(model::number(why)),
+        Written::Refused(why) => print::refused(refusals::number(why)),
     }
 }

@@ -54,7 +54,7 @@ pub fn answer(a: Answer) {
             byte((w / 256) as u8);
             byte((w % 256) as u8);
         }
-        Answer::Refused(why) => refused(model::number(why)),
+        Answer::Refused(why) => refused(refusals::number(why)),
     }
 }
 
@@ -75,7 +75,7 @@ pub fn outputs(o: Outputs) {
             number(millivolts as u64);
             number(notice as u64);
         }
-        Outputs::Refused(why) => refused(model::number(why)),
+        Outputs::Refused(why) => refused(refusals::number(why)),
     }
 }
 
