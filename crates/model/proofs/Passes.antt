@@ -10,7 +10,11 @@ use Rattle.model.specs.Events.{stateWord, noSuchWord, is, wordOf}
 use Rattle.model.specs.Reads.{isRead, wordShown}
 use Rattle.model.specs.Refusals.{badMachine, unsupportedBay, notChargingBay, badNibble, smbElsewhere, notUsable, sameBay, wrongPresence, fault, refusal}
 use Rattle.model.specs.Step.{reply, outcome, stepSpec}
-use Rattle.model.specs.Promises.{RefusalChangesNothing}
+use Rattle.model.specs.Promises.{RefusalChangesNothing, BadMachineFirst}
+
+pub bad-machine-first : BadMachineFirst
+unfolding stepSpec outcome refusal
+bad-machine-first m e h = rw h
 
 pub record Passes (m : Machine) (e : Event) : Type 0 where
   pub good : badMachine m ≡ false

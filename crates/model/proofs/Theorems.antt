@@ -1,5 +1,5 @@
 -- Every promise of `specs/Promises.antt`, proved: a line each, with the file that has the argument.
-use Rattle.model.specs.Promises.{OutputIsTold, ExactlyEight, CutToTheLimits, FactsCanHold, CountedFrom, RunsOut, RunsOutWhateverComes, RefusalChangesNothing, PowerOnIsGood, AlwaysGood, Never15, TicksAndAcHeard, RefusalsApart, AnswersApart, StepsApart, KindsApart, SupplyKept, AllSettled, TableHolds, TimersHold, EdgesHold, WorkedRunsHold}
+use Rattle.model.specs.Promises.{OutputIsTold, ExactlyEight, CutToTheLimits, FactsCanHold, CountedFrom, RunsOut, RunsOutWhateverComes, RefusalChangesNothing, BadMachineFirst, PowerOnIsGood, AlwaysGood, Never15, TicksAndAcHeard, RefusalsApart, AnswersApart, StepsApart, KindsApart, SupplyKept, AllSettled, TableHolds, TimersHold, EdgesHold, WorkedRunsHold}
 use Rattle.model.proofs.Demand3
 use Rattle.model.proofs.Exactly
 use Rattle.model.proofs.Origin
@@ -35,6 +35,9 @@ runs-out-whatever-comes = Later.runs-out-whatever-comes
 
 pub refusal-changes-nothing : RefusalChangesNothing
 refusal-changes-nothing = Passes.refusal-changes-nothing
+
+pub bad-machine-first : BadMachineFirst
+bad-machine-first = Passes.bad-machine-first
 
 pub power-on-is-good : PowerOnIsGood
 power-on-is-good = Good.power-on-is-good

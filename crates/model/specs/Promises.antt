@@ -70,6 +70,10 @@ RunsOutWhateverComes =
 abbrev pub RefusalChangesNothing : Type 0
 RefusalChangesNothing = (m : Machine) (e : Event) (n : ℕ) → stepSpec m e .answer ≡ refused n → stepSpec m e .machine ≡ m
 
+-- 15 comes first: of a bad machine every event is refused with it
+abbrev pub BadMachineFirst : Type 0
+BadMachineFirst = (m : Machine) (e : Event) → badMachine m ≡ true → stepSpec m e .answer ≡ refused 15
+
 -- what power-on hands back is a machine that 15 accepts, also where the setup is refused
 abbrev pub PowerOnIsGood : Type 0
 PowerOnIsGood = (s : Setup) → badMachine (powerOnSpec s .machine) ≡ false

@@ -154,6 +154,29 @@ chargerAtWork =
     -- a Presets word without its OK bit connects none
     ∷ row (HostWrite 0x14 0x02 0x0001) done 0 0 1
     ∷ row (BayWord 1 0x14 1500) (refused 4) 0 0 1
+    -- zeros rewrite too, and lift the hold
+    ∷ row (HostWrite 0x14 0x01 0xFF1F) done 0 0 1
+    ∷ row (HostWrite 0x12 0x16 0x4000) done 0 0 1
+    ∷ row (HostWrite 0x12 0x14 0) done 0 0 1
+    ∷ row (HostRead 0x12 0x13) (word 0xD010) 0 0 1
+    ∷ row (HostWrite 0x12 0x15 0) done 0 0 1
+    ∷ row (HostRead 0x12 0x13) (word 0xC010) 0 0 1
+    -- a request at its largest is not above it
+    ∷ row (HostWrite 0x12 0x14 3000) done 0 0 1
+    ∷ row (HostWrite 0x12 0x15 18000) done 3000 18000 1
+    ∷ row (HostRead 0x12 0x13) (word 0xC010) 3000 18000 1
+    -- a pack pulled elsewhere is no fresh start; of ChargerMode's other bits none counts, bit 3 alone zeroes
+    ∷ row (Removal 1) done 3000 18000 1
+    ∷ row (HostWrite 0x12 0x12 0xFFF2) done 3000 18000 1
+    ∷ row (HostWrite 0x12 0x12 0x0008) done 0 0 1
+    -- a fresh start lifts the hold
+    ∷ row (HostWrite 0x12 0x16 0x8000) done 0 0 1
+    ∷ row (HostWrite 0x12 0x12 0x0004) done 0 0 1
+    ∷ row (HostRead 0x12 0x13) (word 0xC010) 0 0 1
+    -- an empty CHARGE bay reads as over range and cold, and is not heard
+    ∷ row (Removal 0) done 0 0 1
+    ∷ row (HostRead 0x12 0x13) (word 0x8310) 0 0 1
+    ∷ row (BayWord 0 0x14 1500) (refused 4) 0 0 1
     ∷ []
 
 -- the selector at work on two packs
@@ -229,6 +252,13 @@ selectorAtWork =
     ∷ row (HostRead 0x14 0x03) (refused 3) 0 0 0
     ∷ row (HostRead 0x12 0x11) (word 0x0002) 0 0 0
     ∷ row (HostRead 0x14 0x04) (word 0x0113) 0 0 0
+    -- each nibble is judged, but PRESENT is not; SMB 0xF is not the power bay; the top byte of Presets is ignored
+    ∷ row (HostWrite 0x14 0x01 0xFCFF) (refused 5) 0 0 0
+    ∷ row (HostWrite 0x14 0x01 0xFF5F) (refused 5) 0 0 0
+    ∷ row (HostWrite 0x14 0x01 0xF2FF) (refused 6) 0 0 0
+    ∷ row (HostWrite 0x14 0x01 0xFFF5) done 0 0 0
+    ∷ row (HostWrite 0x14 0x02 0xFF20) done 0 0 1
+    ∷ row (HostWrite 0x14 0x01 0x22FF) (refused 7) 0 0 1
     ∷ []
 
 -- the bays C and D, on a board with four
@@ -281,4 +311,6 @@ fourBaysAtWork =
     ∷ row (HostRead 0x14 0x01) (word 0x220A) 0 0 0
     ∷ row (Removal 1) done 0 0 1
     ∷ row (HostRead 0x14 0x01) (word 0x8808) 0 0 0
+    -- a board with four bays says so
+    ∷ row (HostRead 0x14 0x04) (word 0x011F) 0 0 0
     ∷ []
