@@ -4,4 +4,3 @@ pub mod Parts
 pub mod Turns
 pub mod Worked
 pub mod Promises
-pub mod Ends
