@@ -24,8 +24,9 @@ def changes(tree):
     """Each change as (line, in words, what makes it)."""
     for node in ast.walk(tree):
         if isinstance(node, ast.Compare):
-            for other in COMPARISONS.get(type(node.ops[0]), ()):
-                yield node.lineno, other.__name__, lambda n=node, o=other: n.ops.__setitem__(0, o())
+            for i, op in enumerate(node.ops):
+                for other in COMPARISONS.get(type(op), ()):
+                    yield node.lineno, other.__name__, lambda n=node, i=i, o=other: n.ops.__setitem__(i, o())
         elif isinstance(node, ast.BoolOp):
             other = ast.Or if isinstance(node.op, ast.And) else ast.And
             yield node.lineno, other.__name__, lambda n=node, o=other: setattr(n, 'op', o())
@@ -39,10 +40,11 @@ def changes(tree):
             for by in (1, -1):
                 yield node.lineno, '%d for %d' % (node.value + by, node.value), lambda n=node, by=by: setattr(n, 'value', n.value + by)
         elif isinstance(node, (ast.FunctionDef, ast.If, ast.For)):
-            for i, statement in enumerate(node.body):
-                if isinstance(statement, STATEMENTS) and not (
-                        isinstance(statement, ast.Expr) and isinstance(statement.value, ast.Constant)):
-                    yield statement.lineno, 'left out', lambda n=node, i=i: n.body.__setitem__(i, ast.Pass())
+            for block in (node.body, getattr(node, 'orelse', [])):
+                for i, statement in enumerate(block):
+                    if isinstance(statement, STATEMENTS) and not (
+                            isinstance(statement, ast.Expr) and isinstance(statement.value, ast.Constant)):
+                        yield statement.lineno, 'left out', lambda b=block, i=i: b.__setitem__(i, ast.Pass())
 
 
 def outcome(folder):

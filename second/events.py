@@ -9,6 +9,7 @@ from machine import (Refused, Request, bad_machine, bay_of, candidate, charger_s
 
 CHARGER, SELECTOR = 0x12, 0x14
 
+
 def fresh_start(m):
     m.current = Request()
     m.voltage = Request()

@@ -75,19 +75,33 @@ def with_register(machine, numbers):
     return m
 
 
-def handed_row(machine, numbers):
-    handed = with_register(machine, numbers)
-    text, _ = event_row(handed, 't', [])
+def handed_row(machine, letter, numbers):
+    count = 3 if numbers[0] >= 21 else 2
+    handed = with_register(machine, numbers[:count])
+    text, _ = event_row(handed, letter, numbers[count:])
     return kept(machine, handed) + ' |' + text
 
 
 def log_row(numbers):
+    log = bytes(numbers)
     try:
-        letter, values, taken, body = read_record(bytes(numbers))
+        letter, values, taken, body = read_record(log)
     except Refused as refusal:
-        return ' refused %d | body' % refusal.number
+        return ' refused %d | body | run%s' % (refusal.number, run_end(log))
     values = (values + [0, 0, 0])[:3]
-    return ' %s %d %d %d | taken %d | body%s' % (letter, *values, taken, hexes(body))
+    return ' %s %d %d %d | taken %d | body%s | run%s' % (letter, *values, taken, hexes(body), run_end(log))
+
+
+def run_end(log):
+    """How many records a log has up to its end or its first bad one, and 0 or that one's refusal."""
+    records = 0
+    while log:
+        try:
+            log = log[read_record(log)[2]:]
+        except Refused as refusal:
+            return ' %d %d' % (records, refusal.number)
+        records += 1
+    return ' %d 0' % records
 
 
 def free_row(letter, numbers):
@@ -116,7 +130,7 @@ def main():
             _, program = power_on(PROGRAM_SETUP)
             text = ' ' + answer + ' |' + kept(machine, program)
         elif letter == 'h':
-            text = handed_row(machine, numbers)
+            text = handed_row(machine, words[-1][0], numbers)
         elif letter == 'l':
             text = log_row(numbers)
         elif letter == 'f':

@@ -61,6 +61,7 @@ pub const LOW: u32 = 23;
 
 pub const READING: u32 = 24;
 
+// The machine with that value in that register. Of a bay, a is its number and b the value.
 pub fn with(m: Machine, register: u32, a: u32, b: u32) -> Machine {
     let is_set = a == 1;
     let setup = with_setup(m.setup, register, word(a));

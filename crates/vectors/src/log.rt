@@ -3,11 +3,12 @@ use crate::print;
 use crate::rows::Numbers;
 use crate::rows::byte;
 use crate::rows::event_of;
+use layout::End;
 use layout::Found;
 use layout::Written;
 use model::Event;
 
-// The numbers of a row as bytes of a log: what is read at its front, the bytes taken and the body.
+// The numbers of a row as bytes of a log: what is read at its front, the bytes taken and the body; how many records it runs, and its end.
 pub fn read(numbers: Numbers) {
     let n = numbers.of;
     let log = [
@@ -29,6 +30,7 @@ pub fn read(numbers: Numbers) {
 
 fn read_from(bytes: &[u8], count: usize) {
     if bytes.len() < count {
+        print::no_such_row();
         return;
     }
     let log = &bytes[0..count];
@@ -43,6 +45,19 @@ fn read_from(bytes: &[u8], count: usize) {
     }
     print::text(b" | body");
     print::bytes(reader::body(log));
+    let ran = run::run_log(shelf::program_setup(), log);
+    let end = ran.end;
+    print::text(b" | run");
+    print::number(ran.records as u64);
+    ended(end);
+}
+
+// How a log ended: with 0, or with its refusal.
+fn ended(end: End) {
+    match end {
+        End::Whole => print::number(0),
+        End::Refused(why) => print::number(refusals::number(why) as u64),
+    }
 }
 
 // An event that was read, as the row would have it: its letter and its numbers.
@@ -82,6 +97,7 @@ pub fn write(numbers: Numbers) {
 
 fn write_into(bytes: &mut [u8], size: usize, place: usize, event: Event) {
     if bytes.len() < size {
+        print::no_such_row();
         return;
     }
     let written = writer::write(&mut bytes[0..size], place, event);

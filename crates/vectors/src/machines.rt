@@ -11,8 +11,8 @@ use model::Machine;
 use model::Setup;
 use model::Stepped;
 
-// What a row is answered, and the machine after it. A machine that is handed in with another value in a register meets a tick; the
-// story goes on without it.
+// What a row is answered, and the machine after it. A machine that is handed in with another value in a register meets the event that
+// the row ends with; the story goes on without it.
 pub fn follow(m: Machine, letter: u8, numbers: Numbers) -> Machine {
     let n = numbers.of;
     match letter {
@@ -21,11 +21,21 @@ pub fn follow(m: Machine, letter: u8, numbers: Numbers) -> Machine {
             let other = handed::with(m, n[0], n[1], n[2]);
             print::kept(same::machines(m, other));
             print::bar();
-            take(other, Event::Tick, 1);
+            take(other, event_behind(numbers), 1);
             m
         }
         b't' => take(m, Event::Tick, n[0]),
         _ => take(m, event_of(letter, n[0], n[1], n[2]), 1),
+    }
+}
+
+// The event behind a register and its value, or a bay's register, the bay and its value.
+fn event_behind(numbers: Numbers) -> Event {
+    let n = numbers.of;
+    if handed::PRESENT <= n[0] {
+        event_of(numbers.letter, n[3], n[4], n[5])
+    } else {
+        event_of(numbers.letter, n[2], n[3], n[4])
     }
 }
 

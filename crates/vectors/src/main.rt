@@ -67,7 +67,7 @@ fn outcome(m: Machine, row: &[u8]) -> Machine {
     }
     print::bar();
     if !rows::is_known(letter) {
-        print::text(b" no such row");
+        print::no_such_row();
         return m;
     }
     let numbers = rows::numbers_in(row);

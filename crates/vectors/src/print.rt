@@ -14,6 +14,10 @@ pub fn bar() {
     text(b" |");
 }
 
+pub fn no_such_row() {
+    text(b" no such row");
+}
+
 // A space, and the number in decimal.
 pub fn number(n: u64) {
     text(b" ");
@@ -58,9 +62,9 @@ pub fn answer(a: Answer) {
     }
 }
 
-pub fn refused(number_of: u8) {
+pub fn refused(n: u8) {
     text(b" refused");
-    number(number_of as u64);
+    number(n as u64);
 }
 
 // What the board has to drive: mA, mV, notice; or the refusal.

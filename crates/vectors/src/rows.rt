@@ -34,7 +34,7 @@ pub fn numbers_in(row: &[u8]) -> Numbers {
     last.numbers
 }
 
-// Between two of them.
+// Before a number or a word.
 fn anew(numbers: Numbers) -> Scan {
     Scan {
         numbers,
@@ -45,7 +45,7 @@ fn anew(numbers: Numbers) -> Scan {
     }
 }
 
-// One byte further.
+// The row read one byte further.
 fn take(s: Scan, b: u8) -> Scan {
     if b == b' ' {
         return close(s);
@@ -83,6 +83,12 @@ fn digit(b: u8) -> u64 {
     if b < 71 {
         return (b - 55) as u64;
     }
+    if b < 97 {
+        return 16;
+    }
+    if b < 103 {
+        return (b - 87) as u64;
+    }
     16
 }
 
@@ -96,7 +102,7 @@ fn close(s: Scan) -> Scan {
     }
 }
 
-// One number more. There are never more than twelve.
+// One number more. A row has twelve at most; more are passed over.
 fn with(numbers: Numbers, n: u32) -> Numbers {
     let count = numbers.count;
     let mut of = numbers.of;
