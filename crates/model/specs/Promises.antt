@@ -23,7 +23,7 @@ use Rattle.model.specs.Step.{told, stepSpec, powerOnSpec}
 use Rattle.model.specs.Facts.{some, ticks, ticksSince, Eight, requested, outputTold}
 use Rattle.model.specs.Runs.{run, past, heardFrom}
 use Rattle.model.specs.Origin.{Counted}
-use Rattle.model.specs.Table.{charge, table, timers, allSeen, allValues}
+use Rattle.model.specs.Table.{charge, table, aged, timers, allSeen, allValues}
 use Rattle.model.specs.Handed.{goodOnes, badOnes, allBad, everyOne}
 use Rattle.model.specs.Worked.{Row, rerun, listing, statusWords, signalAtWork, chargerAtWork, selectorAtWork, fourBaysAtWork}
 
@@ -124,11 +124,11 @@ AllSettled = (s : Setup) (es : List Event) → settle (run s es) ≡ run s es
 
 -- P1 to P12, one table
 abbrev pub TableHolds : Type 0
-TableHolds = allSeen table ≡ allValues table
+TableHolds = allSeen (powerOn programSetup) table ≡ allValues table
 
 -- each request's own timer
 abbrev pub TimersHold : Type 0
-TimersHold = allSeen timers ≡ allValues timers
+TimersHold = allSeen aged timers ≡ allValues timers
 
 -- 15, and 1 for the setups, up to each edge and past it
 abbrev pub EdgesHold : Type 0

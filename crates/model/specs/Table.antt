@@ -1,14 +1,14 @@
 -- P1 to P12: whole runs of the program's setup from power-on, and what is seen after each.
 use Prim.Native.Nat.{ℕ}
-use mathlib.Core.Bool.{true}
+use mathlib.Core.Bool.{true, false}
 use mathlib.Core.List.{List, [], _∷_, _++_}
 use lib.ListN.{replicate}
 use Rattle.model.specs.declared.Machine.{Machine}
 use Rattle.model.specs.declared.Event.{Event}
 use Rattle.model.specs.declared.Event.the-variants.{HostWrite, HostRead, BayWord, Insertion, Signal, Ac, Tick}
-use Rattle.model.specs.Machines.{programSetup}
+use Rattle.model.specs.Machines.{programSetup, withCharger}
 use Rattle.model.specs.Reads.{output, wordShown}
-use Rattle.model.specs.Runs.{run}
+use Rattle.model.specs.Runs.{runFrom, run}
 
 -- AC; a pack in bay 0 with that safety signal; bay 0 connected; a request for 16800 mV and one for that many mA
 abbrev pub charge : ℕ → ℕ → List Event
@@ -51,20 +51,31 @@ table =
     ∷ record { events = []; look = info; value = 0x0113 }
     ∷ []
 
--- each request has a timer of its own, which only its own word restarts
+-- the machine of `charge 10000 1500`, both words 174 ticks old
+abbrev pub aged : Machine
+aged =
+    withCharger (run programSetup (charge 10000 1500))
+    (record {
+      current = record { word = 1500; age = 174; mark = true };
+      voltage = record { word = 16800; age = 174; mark = true };
+      hold = false;
+      inhibit = false;
+    })
+
+-- from there on: each request has a timer of its own, which only its own word restarts
 unfoldable pub timers : List Case
 timers =
-    record { events = charge 10000 1500 ++ replicate 174 Tick ++ BayWord 0 0x14 1500 ∷ Tick ∷ []; look = current; value = 0 }
-    ∷ record { events = charge 10000 1500 ++ replicate 174 Tick ++ BayWord 0 0x15 16800 ∷ Tick ∷ []; look = current; value = 0 }
-    ∷ record { events = charge 10000 1500 ++ replicate 174 Tick ++ BayWord 0 0x14 1400 ∷ BayWord 0 0x15 16800 ∷ Tick ∷ []; look = current; value = 1400 }
+    record { events = BayWord 0 0x14 1500 ∷ Tick ∷ []; look = current; value = 0 }
+    ∷ record { events = BayWord 0 0x15 16800 ∷ Tick ∷ []; look = current; value = 0 }
+    ∷ record { events = BayWord 0 0x14 1400 ∷ BayWord 0 0x15 16800 ∷ Tick ∷ []; look = current; value = 1400 }
     -- a request that ran out can be made anew
-    ∷ record { events = charge 10000 1500 ++ replicate 180 Tick ++ BayWord 0 0x14 1400 ∷ BayWord 0 0x15 16800 ∷ []; look = current; value = 1400 }
+    ∷ record { events = replicate 6 Tick ++ BayWord 0 0x14 1400 ∷ BayWord 0 0x15 16800 ∷ []; look = current; value = 1400 }
     ∷ []
 
--- what is seen in each case
-unfoldable pub allSeen : List Case → List ℕ
-allSeen [] = []
-allSeen (c ∷ cs) = seen (c .look) (run programSetup (c .events)) ∷ allSeen cs
+-- what is seen in each case, from a machine on
+unfoldable pub allSeen : Machine → List Case → List ℕ
+allSeen m [] = []
+allSeen m (c ∷ cs) = seen (c .look) (runFrom m (c .events)) ∷ allSeen m cs
 
 -- what should be seen in each case
 unfoldable pub allValues : List Case → List ℕ
