@@ -41,7 +41,7 @@ eight s h q =
 pub eight⁻¹ : (s : Setup) (h : Past) → Eight s h → eightHold s h ≡ true
 unfolding eightHold
 eight⁻¹ s h x =
-    simp (x .ac, x .pack, x .signal-allows, x .not-inhibited, x .not-held, ne-eqb _ 0 (x .current-asked), ne-eqb _ 0 (x .voltage-asked), lt-ltb _ 175 (x .in-time .0), lt-ltb _ 175 (x .in-time .1))
+    simp (x .ac, x .pack, x .signal-allows, x .not-inhibited, x .not-held, ne-eqb _ 0 (x .current-asked), ne-eqb _ 0 (x .voltage-asked), lt-ltb _ _ (x .in-time .0), lt-ltb _ _ (x .in-time .1))
 
 -- the output of a machine that agrees with a past
 
