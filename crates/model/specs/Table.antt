@@ -1,4 +1,4 @@
--- P1 to P12: whole runs of the program's setup from power-on, and what is seen after each.
+-- P1 to P12, whole runs of the program's setup from power-on, and the timers, from a machine that was aged: what is seen after each.
 use Prim.Native.Nat.{ℕ}
 use mathlib.Core.Bool.{true, false}
 use mathlib.Core.List.{List, [], _∷_, _++_}
