@@ -1,6 +1,6 @@
 -- How a step ends: an accepted event settles the machine, a refused one leaves it as it stood.
 use Prim.Native.Nat.{ℕ, zero, suc}
-use mathlib.Core.Path.{_≡_, refl, sym}
+use mathlib.Core.Path.{_≡_, refl, sym, ap, _∙_}
 use mathlib.Core.Bool.{Bool, true, false, cond}
 use Rattle.model.specs.declared.Machine.{Machine}
 use Rattle.model.specs.declared.Event.{Event}
@@ -8,9 +8,11 @@ use Rattle.model.specs.declared.Stepped.{Stepped}
 use Rattle.model.specs.Numbers.{done, word, said}
 use Rattle.model.specs.Settling.{settle}
 use Rattle.model.specs.Reads.{isRead, wordShown}
-use Rattle.model.specs.Refusals.{fault}
-use Rattle.model.specs.Step.{told, reply, outcome}
-use Rattle.actions.specs.Meaning.{unsettled, meant, accepts, finished}
+use Rattle.model.specs.Refusals.{badMachine, fault, refusal}
+use Rattle.model.specs.Step.{told, reply, outcome, stepSpec}
+use Rattle.actions.specs.Meaning.{unsettled, meant, meantBy, accepts, finished}
+use Rattle.actions.specs.Decision.{decided}
+use Rattle.actions.proofs.Decides.{decides}
 
 module _ (t : Stepped) where
   pub settles : accepts (said (t .answer)) ≡ true → told (record { answer = t .answer; machine = settle (t .machine) }) ≡ finished (told t)
@@ -22,7 +24,7 @@ module _ (t : Stepped) where
   stands q = sym (rw q)
 
 -- an accepted event's answer is no refusal
-replies : (m : Machine) (e : Event) → accepts (reply m e) ≡ true
+pub replies : (m : Machine) (e : Event) → accepts (reply m e) ≡ true
 unfolding reply
 replies m e = go (isRead e)
   where
@@ -38,3 +40,8 @@ finishes m e = go (fault m e)
     go : (n : ℕ) → finished (unsettled n m e) ≡ outcome n m e
     go zero = rw (replies m e)
     go (suc n) = refl
+
+-- of a machine that 15 accepts it is what the event comes to, done and finished
+pub of-good : (m : Machine) (e : Event) → badMachine m ≡ false → finished (meantBy m (decided m e)) ≡ stepSpec m e
+unfolding stepSpec refusal
+of-good m e q = ap finished (decides m e) ∙ finishes m e ∙ sym (rw q)

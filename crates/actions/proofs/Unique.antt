@@ -10,6 +10,8 @@ use Rattle.actions.proofs.perform.Kinds as perform-kinds
 use Rattle.actions.proofs.perform.Reads as perform-reads
 use Rattle.actions.proofs.finish.Kinds as finish-kinds
 use Rattle.actions.proofs.finish.Reads as finish-reads
+use Rattle.actions.proofs.is_accepted.Kinds as is-accepted-kinds
+use Rattle.actions.proofs.is_accepted.Reads as is-accepted-reads
 
 pub decide-one : OneOutcome decide-kinds.ps decide-kinds.r decide-reads.Post
 decide-one κs a x y s t p q = p ∙ sym q
@@ -22,3 +24,6 @@ perform-one κs a x y s t p q = steps-apart x y (p ∙ sym q)
 
 pub finish-one : OneOutcome finish-kinds.ps finish-kinds.r finish-reads.Post
 finish-one κs a x y s t p q = steps-apart x y (p ∙ sym q)
+
+pub is-accepted-one : OneOutcome is-accepted-kinds.ps is-accepted-kinds.r is-accepted-reads.Post
+is-accepted-one κs a x y s t p q = p ∙ sym q

@@ -230,7 +230,7 @@ pub fn perform(m: Machine, a: Action) -> Stepped
 }
 
 // Whether an answer is no refusal.
-fn is_accepted(a: Answer) -> bool
+pub fn is_accepted(a: Answer) -> bool
     ensures { λ r. ⌜ r ≡ accepts (said a) ⌝ }
 {
     match a {

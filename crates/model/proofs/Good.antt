@@ -1,10 +1,10 @@
 -- A machine that 15 accepts stays one, so from power-on of a good setup nothing is refused by 15.
-use Prim.Native.Nat.{ℕ, _≤_, _<_}
+use Prim.Native.Nat.{ℕ, zero, suc, _≤_, _<_}
 use mathlib.Core.Path.{_≡_, refl, sym, _∙_}
 use mathlib.Core.Bool.{Bool, true, false, not, cond, _&&_, _||_, true≢false, and-true, or-true}
 use mathlib.Core.List.{List}
 use lib.Dec.{ltb, eqb}
-use borrow.Author.Tests.{ltb-true, le-ltb, eqb-true, not-true, not-false}
+use borrow.Author.Tests.{ltb-true, ltb-false, le-ltb, eqb-true, not-true, not-false}
 use native.Mathlib.Omega.{arith}
 use Rattle.model.specs.declared.Setup.{Setup}
 use Rattle.model.specs.declared.Bay.{Bay}
@@ -18,15 +18,15 @@ use Rattle.model.specs.SelectorRules.{written, smbAfter, dropsCharge, ch
 use Rattle.model.specs.ChargerRules.{ageAfter}
 use Rattle.model.specs.Machines.{programSetup, powerOn, act}
 use Rattle.model.specs.Settling.{settledPower, settle}
-use Rattle.model.specs.Refusals.{supports, oneBay, goodLimit, goodSetup, strayNibble, overAge, wasRead, strayBay, strayBays, badMachine, unsupportedBay, formed, stateFormed, badNibble, wrongPresence}
+use Rattle.model.specs.Refusals.{supports, oneBay, goodLimit, goodSetup, strayNibble, overAge, wasRead, strayBay, strayBays, badMachine, unsupportedBay, formed, stateFormed, badNibble, wrongPresence, refusal}
 use Rattle.model.specs.Numbers.{done, refused}
-use Rattle.model.specs.Step.{Told, powerOnSpec}
-use Rattle.model.specs.Promises.{PowerOnIsGood, AlwaysGood}
+use Rattle.model.specs.Step.{Told, outcome, stepSpec, powerOnSpec}
+use Rattle.model.specs.Promises.{PowerOnIsGood, StepsStayGood, AlwaysGood}
 use Rattle.model.proofs.Bools.{choose, and-l, and-r, or-l, or-r, or-then, and-then}
-use Rattle.model.proofs.Passes.{Passes}
+use Rattle.model.proofs.Passes.{Passes, passes}
 use Rattle.model.proofs.Induction.{along}
 use Rattle.model.proofs.Taking.{of-candidate, of-power, of-smb}
-use Rattle.model.proofs.Bays.{each-bay, empty-at, number-small}
+use Rattle.model.proofs.Bays.{below-four, each-bay, empty-at, number-small}
 
 -- 0 or one supported bay
 One : Setup → ℕ → Type 0
@@ -51,6 +51,45 @@ good-accepted : (m : Machine) → Good m → badMachine m ≡ false
 unfolding badMachine strayNibble overAge strayBays One Bayed
 good-accepted m g =
     simp (g .setup, g .smb, g .power, g .charge, g .next, le-ltb 175 _ (g .current-age), le-ltb 175 _ (g .voltage-age), g .bays 0 (omega arith), g .bays 1 (omega arith), g .bays 2 (omega arith), g .bays 3 (omega arith))
+
+no-stray : (s : Setup) (bays : List Bay) → strayBays s bays ≡ false → Bayed s bays
+unfolding strayBays Bayed
+no-stray s bays q =
+    let at : ℕ → Bool = λ b. strayBay s b (bayAt bays b) in
+    let three = or-l (at 0 || at 1 || at 2) (at 3) q in
+    let two = or-l (at 0 || at 1) (at 2) three in
+    below-four (λ b. strayBay s b (bayAt bays b) ≡ false) (or-l (at 0) (at 1) two) (or-r (at 0) (at 1) two) (or-r (at 0 || at 1) (at 2) three) (or-r (at 0 || at 1 || at 2) (at 3) q)
+
+no-stray-nibble : (m : Machine) → strayNibble m ≡ false → One (m .setup) (m .selector .smb) × One (m .setup) (m .selector .power) × One (m .setup) (m .selector .charge) × One (m .setup) (m .selector .next)
+unfolding strayNibble One
+no-stray-nibble m q =
+    let stray : ℕ → Bool = λ n. not (oneBay (m .setup) n) in
+    let smb = stray (m .selector .smb) in
+    let power = stray (m .selector .power) in
+    let charge = stray (m .selector .charge) in
+    let next = stray (m .selector .next) in
+    let three = or-l (smb || power || charge) next q in
+    let two = or-l (smb || power) charge three in
+    (not-false _ (or-l smb power two), not-false _ (or-r smb power two), not-false _ (or-r (smb || power) charge three), not-false _ (or-r (smb || power || charge) next q))
+
+good-of : (m : Machine) → badMachine m ≡ false → Good m
+unfolding badMachine overAge
+good-of m q =
+    let setup = not (goodSetup (m .setup)) in
+    let three = or-l (setup || strayNibble m || overAge m) (strayBays (m .setup) (m .bays)) q in
+    let two = or-l (setup || strayNibble m) (overAge m) three in
+    let ages = or-r (setup || strayNibble m) (overAge m) three in
+    let nibbles = no-stray-nibble m (or-r setup (strayNibble m) two) in
+    record {
+      setup = not-false _ (or-l setup (strayNibble m) two);
+      smb = nibbles .0;
+      power = nibbles .1;
+      charge = nibbles .2;
+      next = nibbles .3;
+      current-age = ltb-false 175 _ (or-l (ltb 175 (m .charger .current .age)) (ltb 175 (m .charger .voltage .age)) ages);
+      voltage-age = ltb-false 175 _ (or-r (ltb 175 (m .charger .current .age)) (ltb 175 (m .charger .voltage .age)) ages);
+      bays = no-stray (m .setup) (m .bays) (or-r (setup || strayNibble m || overAge m) (strayBays (m .setup) (m .bays)) q);
+    }
 
 -- ages
 
@@ -167,6 +206,14 @@ module _ (m : Machine) (e : Event) (p : Passes m e) (g : Good m) where
         voltage-age = age-small _ _ _ _ (g .voltage-age);
         bays = bays-good m e p g;
       }
+
+pub steps-stay-good : StepsStayGood
+unfolding stepSpec outcome
+steps-stay-good m e b = go (refusal m e) refl
+  where
+    go : (n : ℕ) → refusal m e ≡ n → badMachine (outcome n m e .machine) ≡ false
+    go zero q = good-accepted _ (good-step m e (passes m e q) (good-of m b))
+    go (suc n) q = b
 
 good-power-on : (s : Setup) → goodSetup s ≡ true → Good (powerOn s)
 unfolding powerOn Bayed strayBay

@@ -99,9 +99,9 @@ module _ (m : Machine) where
   notice-again : (m .notice || powerChanged m || powerChanged (settle m)) ≡ (m .notice || powerChanged m)
   notice-again = rw (unchanged, or-false)
 
-  settled-again : settle (settle m) ≡ settle m
+  pub settled-once : settle (settle m) ≡ settle m
   unfolding settle
-  settled-again =
+  settled-once =
       λ i. withNotice
       (withSelector m (record { smb = smb-again i; power = power-again i; charge = m .selector .charge; next = m .selector .next }))
       (notice-again i)
@@ -111,4 +111,4 @@ unfolding powerOn settle settledSmb settledPower unpowered keptPower keptSmb tak
 at-power-on s = refl
 
 pub all-settled : AllSettled
-all-settled s = along (λ m h. settle m ≡ m) (λ m e h p a. settled-again (act m e)) s (at-power-on s)
+all-settled s = along (λ m h. settle m ≡ m) (λ m e h p a. settled-once (act m e)) s (at-power-on s)

@@ -1,5 +1,5 @@
 -- Every promise of `specs/Promises.antt`, proved: a line each, with the file that has the argument.
-use Rattle.model.specs.Promises.{OutputIsTold, ExactlyEight, CutToTheLimits, FactsCanHold, CountedFrom, RunsOut, RunsOutWhateverComes, RefusalChangesNothing, BadMachineFirst, PowerOnIsGood, AlwaysGood, Never15, TicksAndAcHeard, RefusalsApart, AnswersApart, StepsApart, KindsApart, SupplyKept, AllSettled, TableHolds, TimersHold, EdgesHold, WorkedRunsHold}
+use Rattle.model.specs.Promises.{OutputIsTold, ExactlyEight, CutToTheLimits, FactsCanHold, CountedFrom, RunsOut, RunsOutWhateverComes, RefusalChangesNothing, BadMachineFirst, PowerOnIsGood, StepsStayGood, AlwaysGood, Never15, TicksAndAcHeard, RefusalsApart, AnswersApart, StepsApart, KindsApart, SupplyKept, SettledOnce, AllSettled, TableHolds, TimersHold, EdgesHold, WorkedRunsHold}
 use Rattle.model.proofs.Demand3
 use Rattle.model.proofs.Exactly
 use Rattle.model.proofs.Origin
@@ -42,6 +42,9 @@ bad-machine-first = Passes.bad-machine-first
 pub power-on-is-good : PowerOnIsGood
 power-on-is-good = Good.power-on-is-good
 
+pub steps-stay-good : StepsStayGood
+steps-stay-good = Good.steps-stay-good
+
 pub always-good : AlwaysGood
 always-good = Good.always-good
 
@@ -65,6 +68,9 @@ kinds-apart = Numbers.kinds-apart
 
 pub supply-kept : SupplyKept
 supply-kept = Candidates.supply-kept
+
+pub settled-once : SettledOnce
+settled-once = Settled.settled-once
 
 pub all-settled : AllSettled
 all-settled = Settled.all-settled

@@ -78,6 +78,10 @@ BadMachineFirst = (m : Machine) (e : Event) → badMachine m ≡ true → stepSp
 abbrev pub PowerOnIsGood : Type 0
 PowerOnIsGood = (s : Setup) → badMachine (powerOnSpec s .machine) ≡ false
 
+-- no step leads from a machine that 15 accepts to one that it refuses
+abbrev pub StepsStayGood : Type 0
+StepsStayGood = (m : Machine) (e : Event) → badMachine m ≡ false → badMachine (stepSpec m e .machine) ≡ false
+
 -- from power-on of a good setup every machine is one that 15 accepts
 abbrev pub AlwaysGood : Type 0
 AlwaysGood = (s : Setup) → goodSetup s ≡ true → (es : List Event) → badMachine (run s es) ≡ false
@@ -116,7 +120,11 @@ SupplyKept =
     (s : Setup) (es : List Event) → run s es .ac ≡ false →
     (run s es .selector .power ≡ 0) ↔ ((b : ℕ) → b < 4 → candidate (bayAt (run s es .bays) b) ≡ false)
 
--- every machine of a run is settled: the three steps once more would change nothing
+-- whatever the machine, the three steps once more change nothing
+abbrev pub SettledOnce : Type 0
+SettledOnce = (m : Machine) → settle (settle m) ≡ settle m
+
+-- every machine of a run is settled
 abbrev pub AllSettled : Type 0
 AllSettled = (s : Setup) (es : List Event) → settle (run s es) ≡ run s es
 

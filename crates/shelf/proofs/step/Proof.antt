@@ -1,7 +1,8 @@
 use Rattle.actions.specs.Meaning.{meantBy, finished}
 use mathlib.Core.Path.{sym, _∙_, ap}
 use Rattle.model.specs.Step.{told}
-use Rattle.shelf.proofs.Steps.{of-bad, of-good}
+use Rattle.actions.proofs.Ends.{of-good}
+use Rattle.shelf.proofs.Steps.{of-bad}
 use Rattle.shelf.proofs.step.Statement.{statement}
 use Rattle.shelf.proofs.step.Tie as tie
 
