@@ -1,3 +1,10 @@
 pub mod Entry
+pub mod Behind
+pub mod Growing
+pub mod Wide
+pub mod Shown
+pub mod Figures
+pub mod Lined
 pub mod Going
+pub mod Turn
 pub mod Unique

@@ -78,8 +78,12 @@ module _ (m : Machine) (c : Charger) (b : Bool) where
       let three = and-l (current && voltage && hold) inhibit h in
       let two = and-l (current && voltage) hold three in
       let k = m .charger in
-      rw (eqb-true (k .current .word) (c .current .word) (and-l current voltage two), eqb-true (k .voltage .word) (c .voltage .word) (and-r current voltage two),
-      is-same (k .hold) (c .hold) (and-r (current && voltage) hold three), is-same (k .inhibit) (c .inhibit) (and-r (current && voltage && hold) inhibit h))
+      rw (
+        eqb-true (k .current .word) (c .current .word) (and-l current voltage two),
+        eqb-true (k .voltage .word) (c .voltage .word) (and-r current voltage two),
+        is-same (k .hold) (c .hold) (and-r (current && voltage) hold three),
+        is-same (k .inhibit) (c .inhibit) (and-r (current && voltage && hold) inhibit h),
+      )
 
 module _ (m n : Machine) (a : Alone m n) where
   pub settled-alone : settle m ≡ m → settle n ≡ n
