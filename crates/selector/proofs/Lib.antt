@@ -1,3 +1,4 @@
 pub mod ByMask
+pub mod Settled
 pub mod ByEvent
 pub mod Unique

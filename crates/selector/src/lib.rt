@@ -16,7 +16,7 @@ ghost use Rattle.model.specs.Settling as settling;
 ghost use Rattle.model.specs.Reads.{shownPower, stateShown, okNibble, shownNext, presetsShown, infoShown};
 ghost use Rattle.model.specs.Refusals.{oneBay, formed, stateFormed, namesBay, smbElsewhere, notUsable, sameBay};
 ghost use Rattle.words.specs.Masks.{among};
-ghost use Rattle.selector.specs.ByMask.{lowNibble, candidateNibble, followerNibble, keptIn, takenFrom};
+ghost use Rattle.selector.specs.ByMask.{lowNibble, candidateNibble, followerNibble, keptIn, takenFrom, settledBy};
 ghost use Rattle.selector.specs.ByEvent.{keptCharge};
 
 // The lowest bit of each nibble of a SelectorState word that is written, and of USE_NEXT in a SelectorPresets word.
@@ -63,19 +63,32 @@ fn take_from(mask: u16, wanted: u16) -> u16
     words::choose(words::is_among(mask, wanted), wanted, words::first_in(mask))
 }
 
-// The three steps after each accepted event.
+// Whether the three steps would change nothing: POWER_BY names a candidate, or is 0 beside AC, and SMB is 0 or names a bay that is present.
+fn is_settled(m: Machine, candidates: u16, present: u16) -> bool
+    ensures { λ r. ⌜ r ≡ settledBy m candidates present ⌝ }
+{
+    words::is_one_of(candidates, m.selector.power)
+        & words::is_one_of(present, m.selector.smb)
+        & ((m.selector.power != 0) | m.ac)
+}
+
+// The three steps after each accepted event. Most leave the machine as it is, which is told first.
 pub fn settle(m: Machine) -> Machine
     ensures { λ r. ⌜ r ≡ settling.settle m ⌝ }
 {
     let bays = m.bays;
     let candidates = candidate_nibble(bays);
+    let present = machine::present_nibble(bays);
+    if is_settled(m, candidates, present) {
+        return m;
+    }
     let kept = keep_in(candidates, m.selector.power);
     let unpowered = (kept == 0) & !m.ac;
     let power = words::choose(unpowered, take_from(candidates, m.selector.next), kept);
     let smb = words::choose(
         unpowered & (power != 0),
         power,
-        keep_in(machine::present_nibble(bays), m.selector.smb),
+        keep_in(present, m.selector.smb),
     );
     let selector = Selector {
         smb: smb,
