@@ -4,7 +4,9 @@ use Rattle.steady.proofs.is_alike.Tie as tie
 
 returns : tie.Need-returns
 unfolding alike same
-returns c = simp (c .choose-bool2 .ensures, c .before .before .choose-bool .ensures)
+returns c =
+    let c2 = c .before .before in
+    simp (c .choose-bool2 .ensures, c2 .choose-bool .ensures)
 
 pub is-alike-spec : {M : Type 1} → statement M
 is-alike-spec = tie.close (tie.spec (λ c κs. tt) (λ c κs. tt) returns)
