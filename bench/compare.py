@@ -53,8 +53,8 @@ def compare(ours, c, folder, count):
         log.write_bytes(logs.log_of(kind, 7000))
         lines += compare_one(ours, c, [], log).count(b'\n')
     log.unlink()
-    return ('%d random logs, %d of them under a setup that is refused, and one of each kind: the same %d lines from ours and from C (%s).'
-            % (count, refused, lines, ', '.join(c['replay'])))
+    return ('%d random logs (good, damaged, cut off, random bytes; %d of them under a setup that is refused) and one of each kind: the same '
+            '%d lines from ours and from C (%s).' % (count, refused, lines, ', '.join(c['replay'])))
 
 
 def compare_rounds(ours, c, folder):

@@ -14,7 +14,7 @@ TRACE = ('-one-insn-per-tb', '-d', 'exec,nochain', '-D')
 
 
 def instructions(program, arguments, log, folder):
-    """Exact x86 instructions of one run, start-up and end included."""
+    """x86 instructions of one run, start-up and end included: exact, but by perf, which may count a few of the system's."""
     if not IS_X86:
         return traced(program, arguments, log, folder)
     if shutil.which('valgrind'):
@@ -56,12 +56,12 @@ def by_perf(program, arguments, log, folder):
     return int(count.group(1))
 
 
-def per_record(program, kind, records, folder):
+def per_record(program, setup, kind, records, folder):
     """Instructions a record of the whole program, less those of an empty log."""
     log, empty = folder / 'counted.log', folder / 'empty.log'
     log.write_bytes(logs.log_of(kind, records))
     empty.write_bytes(b'')
-    return (instructions(program, (), log, folder) - instructions(program, (), empty, folder)) / records
+    return (instructions(program, setup, log, folder) - instructions(program, setup, empty, folder)) / records
 
 
 def per_round(program, mode, kind, records, folder):
@@ -97,9 +97,10 @@ def largest_memory(pid):
 
 def growth(program, records):
     """Seconds and KiB for a day's log of that many records through a pipe, since a long one would fill the RAM disk."""
+    pieces = list(logs.pieces('day', records))
     start = time.perf_counter()
     run = subprocess.Popen(program.command(), stdin=subprocess.PIPE, stdout=subprocess.DEVNULL)
-    for piece in logs.pieces('day', records):
+    for piece in pieces:
         run.stdin.write(piece)
     run.stdin.flush()
     memory = largest_memory(run.pid)
@@ -114,13 +115,13 @@ def size_of_step(objects):
     prefix = '' if IS_X86 else 'x86_64-linux-gnu-'
     if shutil.which(prefix + 'objdump') is None:
         return [['a step of ours: not measured without the Debian package binutils', '-']]
-    words = [prefix + 'objdump', '-d', '--no-show-raw-insn', '-M', 'intel', '--section=.text.shelf::step', str(objects / 'vectors.o')]
-    code = subprocess.run(words, stdout=subprocess.PIPE, text=True, check=True).stdout
-    places = re.findall(r'^ *([0-9a-f]+):\t', code, re.MULTILINE)
-    if not places or re.search(r'\tcall ', code):
+    words = [prefix + 'objdump', '-h', '-d', '--no-show-raw-insn', '-M', 'intel', '--section=.text.shelf::step', str(objects / 'vectors.o')]
+    code = subprocess.run(words, stdout=subprocess.PIPE, stderr=subprocess.DEVNULL, text=True).stdout
+    size = re.search(r'\.text\.shelf::step +([0-9a-f]+)', code)
+    frame = re.search(r'<shelf::step>:\n((?:.*\tpush .*\n)*).*\tsub +rsp,0x([0-9a-f]+)', code)
+    if size is None or frame is None or re.search(r'\tcall ', code):
         return [['a step of ours: not there as one function', '-']]
-    saved = len(re.findall(r'\tpush ', code)) + 1
-    frame = re.search(r'\tsub +rsp,0x([0-9a-f]+)', code)
+    saved = frame.group(1).count('push') + 1
     below = max([int(n, 16) for n in re.findall(r'\[rsp-0x([0-9a-f]+)\]', code)], default=0)
-    return [['machine code of one step of ours', int(places[-1], 16)],
-            ['its stack: return address, saved registers and what it keeps', 8 * saved + (int(frame.group(1), 16) if frame else 0) + below]]
+    return [['machine code of one step of ours', int(size.group(1), 16)],
+            ['its stack: return address, saved registers and what it keeps', 8 * saved + int(frame.group(2), 16) + below]]

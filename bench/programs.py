@@ -13,7 +13,7 @@ HERE = pathlib.Path(__file__).resolve().parent
 ROOT = HERE.parent
 IS_X86 = platform.machine() == 'x86_64'
 FLAGS = ['-std=c11', '-D_POSIX_C_SOURCE=200809L', '-O3', '-Wall', '-Wextra', '-Wconversion', '-static']
-NAMES = ('replay', 'rounds', 'copy')
+NAMES = ('replay', 'replay_sharing', 'rounds', 'copy')
 HOME_COMPILERS = {'gcc': ['gcc'], 'clang': ['clang']}
 CROSS_COMPILERS = {
     'gcc': ['x86_64-linux-gnu-gcc'],
@@ -49,6 +49,13 @@ class Program:
         tools = toolchain()
         loader = [] if self.is_static else [str(tools / 'lib/ld-linux-x86-64.so.2'), '--library-path', str(tools / 'lib')]
         return [str(tools / 'bin/qemu-x86_64'), *emulator_options, *loader, *words]
+
+
+def versions():
+    """The compilers of the C, by what they say of themselves."""
+    for words in COMPILERS.values():
+        if shutil.which(words[0]):
+            yield subprocess.run([words[0], '--version'], stdout=subprocess.PIPE, text=True, check=True).stdout.splitlines()[0] + ' ' + FLAGS[2]
 
 
 def build_ours():

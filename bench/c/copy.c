@@ -1,6 +1,6 @@
-/* The limit of any such program: reads standard input to its end, and copies the file LISTING to standard output. */
-#include <fcntl.h>
+/* The limit of any such program: reads standard input to its end and writes BYTES bytes, with no work in between. */
 #include <stdio.h>
+#include <stdlib.h>
 
 #include "files.c"
 
@@ -18,19 +18,21 @@ static int fail(const char *what)
 int main(int count, char **words)
 {
     if (count != 2) {
-        fputs("usage: copy LISTING < LOG\n", stderr);
+        fputs("usage: copy BYTES < LOG\n", stderr);
         return 2;
     }
+    unsigned long long left = strtoull(words[1], NULL, 10);
     ssize_t got;
-    while ((got = read_some(STDIN_FILENO, bytes, BUFFER)) > 0)
-        continue;
-    if (got < 0)
-        return fail("reading the log");
-    int listing = open(words[1], O_RDONLY);
-    if (listing < 0)
-        return fail("opening the listing");
-    while ((got = read_some(listing, bytes, BUFFER)) > 0)
-        if (!write_all(STDOUT_FILENO, bytes, (size_t)got))
-            return fail("writing the listing");
-    return got < 0 ? fail("reading the listing") : 0;
+    do {
+        got = read_some(STDIN_FILENO, bytes, BUFFER);
+        if (got < 0)
+            return fail("reading the log");
+    } while (got > 0);
+    while (left > 0) {
+        size_t size = left < BUFFER ? (size_t)left : BUFFER;
+        if (!write_all(STDOUT_FILENO, bytes, size))
+            return fail("writing");
+        left -= size;
+    }
+    return 0;
 }

@@ -30,6 +30,7 @@ keptIn mask n = if among mask n then n else 0
 unfoldable pub takenFrom : ℕ → ℕ → ℕ
 takenFrom mask wanted = if among mask wanted then wanted else firstIn mask
 
--- by the masks of the candidates and of the present bays: POWER_BY names a candidate, or is 0 beside AC, and SMB is 0 or names a present bay
+-- enough for the three steps to change nothing, by the masks of the candidates and of the present bays: POWER_BY names a candidate, or is 0
+-- beside AC, and SMB is 0 or names a present bay
 unfoldable pub settledBy : Machine → ℕ → ℕ → Bool
 settledBy m candidates present = oneOf candidates (m .selector .power) && oneOf present (m .selector .smb) && (not (eqb (m .selector .power) 0) || m .ac)

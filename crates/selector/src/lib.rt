@@ -63,7 +63,7 @@ fn take_from(mask: u16, wanted: u16) -> u16
     words::choose(words::is_among(mask, wanted), wanted, words::first_in(mask))
 }
 
-// Whether the three steps would change nothing: POWER_BY names a candidate, or is 0 beside AC, and SMB is 0 or names a bay that is present.
+// Enough for the three steps to change nothing: POWER_BY names a candidate, or is 0 beside AC, and SMB is 0 or names a bay that is present.
 fn is_settled(m: Machine, candidates: u16, present: u16) -> bool
     ensures { λ r. ⌜ r ≡ settledBy m candidates present ⌝ }
 {
@@ -72,7 +72,7 @@ fn is_settled(m: Machine, candidates: u16, present: u16) -> bool
         & ((m.selector.power != 0) | m.ac)
 }
 
-// The three steps after each accepted event. Most leave the machine as it is, which is told first.
+// The three steps after each accepted event. After most events they change nothing, so that is asked first.
 pub fn settle(m: Machine) -> Machine
     ensures { λ r. ⌜ r ≡ settling.settle m ⌝ }
 {

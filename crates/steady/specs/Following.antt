@@ -59,11 +59,12 @@ alike a b = eqb (a .current .word) (b .current .word) && eqb (a .voltage .word) 
 unfoldable pub doneBy : Machine → Action → Bool → Told
 doneBy m a steady = if steady && not (unsettles a) then meantBy m a else finished (meantBy m a)
 
--- the output is the one before: the action touches the charger alone, and nothing there that the output shows; or it is refused
+-- enough for the output to be the one before: the action touches the charger and the notice alone, and nothing of the charger that the
+-- output shows; or it is refused
 unfoldable pub quietBy : Machine → Action → Told → Bool
 quietBy m a t = if unsettles a then not (accepts (t .answer)) else alike (m .charger) (t .machine .charger)
 
--- what an event came to: answer and machine, whether the machine has settled, whether its output is known to be the one before
+-- what an event came to: answer and machine, whether the machine is known to have settled, and its output to be the one before
 pub record Shown : Type 0 where
   pub told : Told
   pub steady : Bool

@@ -10,7 +10,7 @@ ghost use mathlib.Core.Path.{_≡_};
 ghost use mathlib.Core.Bool.{_&&_};
 ghost use Rattle.steady.specs.Following as following;
 
-// What an event came to: the answer beside the machine; whether that machine has settled; whether its output is the one before.
+// What an event came to: the answer beside the machine; whether that machine is known to have settled, and its output to be the one before.
 pub struct Followed {
     pub answer: Answer,
     pub machine: Machine,
@@ -22,7 +22,7 @@ pub struct Followed {
 pub fn follow(m: Machine, e: Event, steady: bool) -> Followed
     ensures { λ r. ⌜ following.shown r ≡ following.followSpec m e steady ⌝ }
 {
-    // Most events of a log are ticks.
+    // A tick is the most frequent event.
     if steady & is_tick(e) {
         let machine = charger::tick(m);
         return Followed {
