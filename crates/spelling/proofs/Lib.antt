@@ -1,0 +1,4 @@
+pub mod ByComputing
+pub mod Digits
+pub mod ReadBack
+pub mod Theorems
