@@ -5,3 +5,5 @@ pub mod Lines
 pub mod Texts
 pub mod Makers
 pub mod Complaints
+pub mod Worked
+pub mod Promises
