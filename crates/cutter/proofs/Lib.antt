@@ -1,0 +1,3 @@
+pub mod Passing
+pub mod Words
+pub mod Unique
