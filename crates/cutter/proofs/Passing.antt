@@ -5,19 +5,12 @@ use native.Mathlib.Omega.{arith}
 use mathlib.Core.Path.{_≡_, refl, sym, ap, _∙_}
 use mathlib.Core.List.{List, [], _∷_, _++_}
 use mathlib.Core.Bool.{Bool, true, false, not}
-use lib.ListN.{length, getD, take, drop}
+use lib.ListN.{length, getD, drop, drop-of-length-le}
 use lib.Seq.{drop-cons}
 use Rattle.model.proofs.Bools.{choose}
 use Rattle.notation.specs.Words.{lineFeed, lineIn, sizeIn}
 use Rattle.cutter.specs.declared.Line.{Line}
 use Rattle.cutter.specs.Cuts.{firstLine, passing, past, unbroken}
-
--- past the end there is nothing
-none-there : (s : List ℕ) (i : ℕ) → length s ≤ i → drop i s ≡ []
-none-there [] zero h = refl
-none-there [] (suc i) h = refl
-none-there (b ∷ s) zero h = absurd (omega arith)
-none-there (b ∷ s) (suc i) h = none-there s i (omega arith)
 
 module _ (test : ℕ → Bool) (s : List ℕ) (i : ℕ) where
   -- a byte that passes: the same place is reached from the next
@@ -32,7 +25,7 @@ module _ (test : ℕ → Bool) (s : List ℕ) (i : ℕ) where
 
   pub ends-here : length s ≤ i → past test s i ≡ i
   unfolding past passing
-  ends-here h = rw (none-there s i h) (omega arith)
+  ends-here h = rw (drop-of-length-le s h) (omega arith)
 
 -- LINES
 

@@ -12,6 +12,7 @@ use borrow.Author.Tests.{not-true}
 use Rattle.model.proofs.Bools.{choose, or-then}
 use Rattle.notation.specs.Words.{lineIn, lineFeed, blank, mark, stops, wordsOf}
 use Rattle.notation.proofs.Words.{Plain, Gap, past-blank, at-mark, no-words, word-first}
+use Rattle.cutter.specs.declared.Word.{Word}
 use Rattle.cutter.specs.Cuts.{passing, past, plain, firstWord}
 
 -- the bytes of a line or a text from one place up to another
@@ -112,6 +113,10 @@ module _ (s : List ℕ) (at : ℕ) where
   pub word-inside : at ≤ length s → (firstWord s at .from ≤ firstWord s at .to) × (firstWord s at .to ≤ length s)
   unfolding firstWord
   word-inside h = (forward plain s (past blank s at), inside plain s (past blank s at) (inside blank s at h))
+
+-- and so it does as the code hands it over
+pub cut-inside : (s : List ℕ) (at : ℕ) (w : Word) → w ≡ firstWord s at → at ≤ length s → (w .from ≤ w .to) × (w .to ≤ length s)
+cut-inside s at w p h = rw p (word-inside s at h)
 
 -- THE FIRST LINE
 
