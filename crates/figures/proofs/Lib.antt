@@ -1,3 +1,3 @@
-pub mod Spelled
+pub mod Digits
 pub mod Refused
 pub mod Unique

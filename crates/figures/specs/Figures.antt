@@ -1,21 +1,17 @@
--- The number that an argument gives.
-use Prim.Native.Nat.{ℕ}
-use mathlib.Core.Bool.{Bool, true, false, not, _&&_}
-use mathlib.Core.List.{List, [], _∷_}
-use lib.ListN.{length}
-use lib.Dec.{eqb, leb}
+-- The number that an argument or a word gives, as it is handed on.
+use Prim.Native.Nat.{ℕ, min}
+use mathlib.Core.Bool.{true, false}
+use mathlib.Core.List.{List}
+use lib.Dec.{leb}
 use Rattle.model.specs.If.{if_then_else_}
-use Rattle.lines.specs.Text.{valueFrom}
+use Rattle.spelling.specs.Numbers.{Number, number, none, spelled}
 use Rattle.figures.specs.declared.Figure.{Figure}
+use Rattle.figures.specs.declared.Value.{Value}
 
--- `0` to `9`
-unfoldable pub isDigit : ℕ → Bool
-isDigit b = leb 48 b && leb b 57
-
--- every byte is a digit
-unfoldable pub allDigits : List ℕ → Bool
-allDigits [] = true
-allDigits (b ∷ t) = isDigit b && allDigits t
+-- a number, or none; those above 32 bits count alike
+unfoldable pub valueOf : Number → Value
+valueOf (number n) = record { value = min n 4294967296; «is_number» = true }
+valueOf none = record { value = 0; «is_number» = false }
 
 -- a number as a word; above 65535 it is 0, which no place of a setup may hold
 unfoldable pub wordFor : ℕ → ℕ
@@ -25,6 +21,11 @@ wordFor n = if leb n 65535 then n else 0
 abbrev pub noFigure : Figure
 noFigure = record { word = 0; «is_good» = false }
 
--- the number that the digits spell; a text without any, or with another byte, is none
+-- a number of a setup, or none
+unfoldable pub figureFor : Number → Figure
+figureFor (number n) = record { word = wordFor n; «is_good» = true }
+figureFor none = noFigure
+
+-- the number that decimal digits spell; a text without any, or with another byte, is none
 unfoldable pub figureOf : List ℕ → Figure
-figureOf t = if not (eqb (length t) 0) && allDigits t then record { word = wordFor (valueFrom 0 t); «is_good» = true } else noFigure
+figureOf t = figureFor (spelled 10 t)

@@ -1,5 +1,4 @@
 -- In the order to read them.
-pub mod Text
 pub mod Lines
 pub mod Worked
 pub mod Promises

@@ -1,0 +1,5 @@
+pub mod Put
+pub mod Digits
+pub mod Room
+pub mod Chained
+pub mod Unique
