@@ -1,15 +1,13 @@
 -- Bytes that pass a test, one after the other; and what they tell of lines and words.
-use Prim.Native.Nat.{ℕ, zero, suc, _+_, _-_, _≤_, _<_, min}
+use Prim.Native.Nat.{ℕ, _+_, _-_, _≤_, _<_, min}
 use native.Mathlib.Numerals.{add-one}
 use native.Mathlib.Omega.{arith}
-use mathlib.Core.Path.{_≡_, refl, sym, ap, _∙_}
-use mathlib.Core.List.{List, [], _∷_, _++_}
+use mathlib.Core.Path.{_≡_, refl, ap}
+use mathlib.Core.List.{List, [], _∷_}
 use mathlib.Core.Bool.{Bool, true, false, not}
-use lib.ListN.{length, getD, drop, drop-of-length-le}
+use lib.ListN.{length, getD, drop-of-length-le}
 use lib.Seq.{drop-cons}
-use Rattle.model.proofs.Bools.{choose}
 use Rattle.notation.specs.Words.{lineFeed, lineIn, sizeIn}
-use Rattle.cutter.specs.declared.Line.{Line}
 use Rattle.cutter.specs.Cuts.{firstLine, passing, past, unbroken}
 
 module _ (test : ℕ → Bool) (s : List ℕ) (i : ℕ) where

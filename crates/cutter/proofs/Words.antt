@@ -1,14 +1,12 @@
 -- The words of a line are where the cuts say.
-use Prim.Native.Nat.{ℕ, zero, suc, _+_, _-_, _≤_, _<_}
-use native.Mathlib.Nat.{add-zero}
+use Prim.Native.Nat.{ℕ, _+_, _-_, _≤_}
 use native.Mathlib.Numerals.{one-add}
 use native.Mathlib.Omega.{arith}
 use mathlib.Core.Path.{_≡_, refl, sym, ap, _∙_, subst}
-use mathlib.Core.List.{List, [], _∷_, _++_}
-use mathlib.Core.Bool.{Bool, true, false, not}
+use mathlib.Core.List.{List, [], _∷_}
+use mathlib.Core.Bool.{Bool, true, false}
 use lib.ListN.{length, getD, take, drop, take-append-drop, length-drop}
 use lib.Seq.{drop-drop}
-use borrow.Author.Tests.{not-true}
 use Rattle.model.proofs.Bools.{choose, or-then}
 use Rattle.notation.specs.Words.{lineIn, lineFeed, blank, mark, stops, wordsOf}
 use Rattle.notation.proofs.Words.{Plain, Gap, past-blank, at-mark, no-words, word-first}
