@@ -1,3 +1,5 @@
 pub mod Order
 pub mod InTurns
+pub mod Enough
 pub mod Going
+pub mod Unique
