@@ -2,4 +2,5 @@ pub mod Order
 pub mod InTurns
 pub mod Enough
 pub mod Going
+pub mod Inside
 pub mod Unique

@@ -1,6 +1,6 @@
--- In the order to read them.
 pub mod Writing
 pub mod Recording
 pub mod Turns
 pub mod Entry
+pub mod Inside
 pub mod Unique

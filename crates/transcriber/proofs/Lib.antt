@@ -1,0 +1,4 @@
+pub mod Turns
+pub mod Entry
+pub mod Inside
+pub mod Unique
