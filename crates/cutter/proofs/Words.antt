@@ -9,9 +9,10 @@ use lib.ListN.{length, getD, take, drop, take-append-drop, length-drop}
 use lib.Seq.{drop-drop}
 use Rattle.model.proofs.Bools.{choose, or-then}
 use Rattle.notation.specs.Words.{lineIn, lineFeed, blank, mark, stops, wordsOf}
-use Rattle.notation.proofs.Words.{Plain, Gap, past-blank, at-mark, no-words, word-first}
+use Rattle.notation.proofs.Words.{size-inside, Plain, Gap, past-blank, at-mark, no-words, word-first}
+use Rattle.cutter.specs.declared.Line.{Line}
 use Rattle.cutter.specs.declared.Word.{Word}
-use Rattle.cutter.specs.Cuts.{passing, past, plain, firstWord}
+use Rattle.cutter.specs.Cuts.{firstLine, passing, past, plain, firstWord}
 
 -- the bytes of a line or a text from one place up to another
 abbrev pub between : List ℕ → ℕ → ℕ → List ℕ
@@ -131,3 +132,8 @@ line-inside [] = omega arith
 line-inside (b ∷ s) =
     let i = line-inside s in
     choose (λ (l : List ℕ). length l ≤ length (b ∷ s)) (lineFeed b) [] (b ∷ lineIn s) (λ q. omega arith) (λ q. omega arith)
+
+-- and so does what the code hands over of it
+pub line-cut-inside : (s : List ℕ) (l : Line) → l ≡ firstLine s → (l .size ≤ length s) × (l .taken ≤ length s)
+unfolding firstLine
+line-cut-inside s l p = rw p (line-inside s, size-inside s .0)
