@@ -5,6 +5,6 @@ pub mod Wide
 pub mod Shown
 pub mod Figures
 pub mod Lined
-pub mod Going
+pub mod Ending
 pub mod Turn
 pub mod Unique

@@ -1,5 +1,4 @@
 pub mod ByComputing
-pub mod Pieces
 pub mod Order
 pub mod InTurns
 pub mod Inside

@@ -1,6 +1,5 @@
 -- In the order to read them.
 pub mod Listing
 pub mod Parts
-pub mod Turns
 pub mod Worked
 pub mod Promises

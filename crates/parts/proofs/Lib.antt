@@ -1,3 +1,4 @@
+pub mod Front
 pub mod Order
 pub mod InTurns
 pub mod Enough
