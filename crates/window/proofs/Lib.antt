@@ -1,3 +1,4 @@
 pub mod Places
 pub mod Moving
+pub mod Turns
 pub mod Unique
