@@ -57,7 +57,7 @@ def main():
     count, seed = (int(n) for n in (sys.argv[1:] + ['200', '1'][len(sys.argv) - 1:]))
     r = random.Random(seed)
     lines = charging = 0
-    with tempfile.NamedTemporaryFile() as file:
+    with tempfile.NamedTemporaryFile(suffix='.log') as file:
         for i in range(count):
             setup, log = r.choice((PROGRAM_SETUP, some_setup(r))), some_log(r)
             file.seek(0)
