@@ -4,4 +4,5 @@ pub mod InTurns
 pub mod Enough
 pub mod Going
 pub mod Inside
+pub mod Entry
 pub mod Unique

@@ -1,4 +1,4 @@
 pub mod Turns
-pub mod Entry
+pub mod Fitting
 pub mod Inside
 pub mod Unique
