@@ -199,11 +199,29 @@ def some_event(r):
     ))()
 
 
+# What ends wake-up, stops it for a while, begins it anew or lets it go on.
+AROUND_WAKING = ([connect(0)], [ac(1)], [ac(0), *[tick()] * 60, ac(1)], [ac(0), host_write(CHARGER, VOLTAGE, 500), ac(1)],
+                 [bay_word(0, CURRENT, 0)], [bay_word(0, VOLTAGE, 0)], [host_write(CHARGER, ALARM, 0x4000), host_write(CHARGER, ALARM, 0)],
+                 [host_write(CHARGER, MODE, 1), host_write(CHARGER, MODE, 0)], *([host_write(CHARGER, MODE, word)] for word in (4, 8, 12)))
+
+
+def some_silence(r):
+    """A pack that is put in and connected, and is too flat to ask."""
+    yield from [host_write(CHARGER, MODE, 4), ac(1), removal(0), insertion(0), ohms(0, 10000), connect(0)]
+    for _ in range(r.randint(1, 6)):
+        yield from [tick()] * r.choice((1, 1, 1, 115, 174, 175))
+        yield host_read(SELECTOR, STATE)
+        yield from r.choice(AROUND_WAKING)
+
+
 def some_events(r):
-    """Any events; now and then a start of charging, or the ticks up to the end of a request."""
+    """Any events; now and then a start of charging, a pack that is silent, or the ticks up to the end of a request."""
     while True:
-        if r.randrange(2):
+        start = r.randrange(4)
+        if start == 0:
             yield from [ac(1), insertion(0), ohms(0, 10000), connect(0), *pair(0, 1500, 16800)]
+        elif start == 1:
+            yield from some_silence(r)
         for _ in range(r.randint(0, 25)):
             yield some_event(r)
         yield from [tick()] * r.choice((0, 0, 3, 174, 175))

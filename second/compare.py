@@ -1,6 +1,7 @@
 """Compares the programs with the second reading on random logs: python3 second/compare.py [COUNT [SEED]]
 
-Half of the logs are good, the others damaged or cut off; half run under random setups, some of which are refused.
+Half of the logs are good, the others damaged or cut off; half run under random setups, some of which are refused. Many let a connected
+pack be silent for a while, so that the wake pair flows.
 """
 import pathlib
 import random
@@ -8,18 +9,28 @@ import subprocess
 import sys
 import tempfile
 
-from listing import listing
+from listing import listing, steps
 from log import record_of
-from machine import PROGRAM_SETUP
+from machine import PROGRAM_SETUP, Refused, power_on, waking
 
 ROOT = pathlib.Path(__file__).resolve().parent.parent
-START = [('a', [1]), ('i', [0]), ('o', [0, 10000]), ('w', [0x14, 0x01, 0xFF1F]), ('b', [0, 0x15, 16800]), ('b', [0, 0x14, 1500])]
+CONNECTED = [('a', [1]), ('i', [0]), ('o', [0, 10000]), ('w', [0x14, 0x01, 0xFF1F])]
+START = CONNECTED + [('b', [0, 0x15, 16800]), ('b', [0, 0x14, 1500])]
 
 
 def some_setup(r):
-    largest_ma, largest_mv = r.choice((1, 3000, 65534, 65535)), r.choice((1, 18000, 65534))
-    return (r.choice((1, 3, 7, 15, 15, 2)), largest_ma, r.randint(1, min(largest_ma, 65534)), largest_mv,
-            r.randint(1, largest_mv), r.choice((1, 8000, 65534)), r.choice((9000, 65535, 8000)))
+    """A good one, or one with a number that is out of its range."""
+    largest_ma, largest_mv = r.choice((1, 3000, 3000, 65534)), r.choice((1, 18000, 18000, 65534))
+    safe_ma, safe_mv = r.randint(1, largest_ma), r.randint(1, largest_mv)
+    low_mv, restart_mv = r.choice(((1, 8000), (8000, 9000), (8000, 65535), (65534, 65535)))
+    most = min(100, safe_ma)
+    wake_ma, wake_mv = r.choice((0, most, r.randint(1, most), r.randint(1, most))), r.choice((1, safe_mv, *[r.randint(1, safe_mv)] * 4))
+    setup = [r.choice((1, 3, 7, 15, 15)), largest_ma, safe_ma, largest_mv, safe_mv, low_mv, restart_mv, wake_ma, wake_mv]
+    if r.random() < 0.25:
+        field, wrong = r.choice((
+            (0, 2), (1, 65535), (5, restart_mv), (6, low_mv - 1), (7, most + 1), (7, 65535), (8, 0), (8, safe_mv + 1)))
+        setup[field] = wrong
+    return tuple(setup)
 
 
 def some_event(r):
@@ -42,10 +53,36 @@ def some_event(r):
     ))()
 
 
+def silent_event(r):
+    """What lets a pack at bay A be woken, stops that or starts it again, the pack itself being silent."""
+    return r.choice((
+        lambda: ('a', [r.choice((0, 1, 1))]),
+        lambda: ('p', [0]),
+        lambda: ('i', [r.choice((0, 0, 1))]),
+        lambda: ('o', [0, r.choice((10000, 10000, 10000, 499, 2999, 40000, 100001))]),
+        lambda: ('w', [0x12, 0x16, r.choice((0, 0, 0x4000))]),
+        lambda: ('w', [0x12, 0x12, r.choice((0, 0, 1, 4, 4, 5, 8, 12))]),
+        lambda: ('w', [0x14, 0x01, r.choice((0xFF1F, 0xFF1F, 0xFF2F, 0xFF0F))]),
+        lambda: ('w', [0x14, 0x02, r.choice((3, 3, 2))]),
+        lambda: ('r', [0x14, 0x01]),
+        lambda: ('b', [1, 0x14, 1500]),
+    ))()
+
+
+def silence(r):
+    """A pack at bay A is connected and does not speak."""
+    events = list(CONNECTED)
+    for _ in range(r.randint(1, 5)):
+        events += [('t', [])] * r.choice((0, 0, 3, 3, 60, 174, 175)) + [silent_event(r) for _ in range(r.randint(0, 2))]
+        events += r.choice(([], [('a', [1]), ('i', [0]), ('o', [0, 10000])]))
+    return events
+
+
 def some_log(r):
     events = []
     for _ in range(r.randint(0, 12)):
-        events += START * r.randint(0, 1) + [some_event(r) for _ in range(r.randint(0, 25))] + [('t', [])] * r.choice((0, 0, 3, 174, 175))
+        events += r.choice((lambda: [], lambda: START, lambda: START, lambda: silence(r), lambda: silence(r)))()
+        events += [some_event(r) for _ in range(r.randint(0, 25))] + [('t', [])] * r.choice((0, 0, 3, 174, 175))
     log = bytearray(b''.join(record_of(*event) for event in events))
     harm = r.choice(('none', 'none', 'byte', 'cut'))
     if harm == 'byte' and log:
@@ -53,10 +90,21 @@ def some_log(r):
     return bytes(log[:r.randint(0, len(log))] if harm == 'cut' else log)
 
 
+def wake_lines(setup, log):
+    """How many records leave the wake pair flowing, which the listing alone does not tell."""
+    lines = 0
+    try:
+        for _, machine in steps(power_on(setup)[1], log):
+            lines += waking(machine)
+    except Refused:
+        pass
+    return lines
+
+
 def main():
     count, seed = (int(n) for n in (sys.argv[1:] + ['200', '1'][len(sys.argv) - 1:]))
     r = random.Random(seed)
-    lines = charging = 0
+    lines = charging = woken = 0
     with tempfile.NamedTemporaryFile(suffix='.log') as file:
         for i in range(count):
             setup, log = r.choice((PROGRAM_SETUP, some_setup(r))), some_log(r)
@@ -71,7 +119,9 @@ def main():
                 sys.exit('log %d of seed %d differs under %s: it is kept as differs.log' % (i, seed, ' '.join(map(str, setup))))
             lines += ours.count('\n')
             charging += sum(line.split()[-3:-1] != ['0', '0'] for line in ours.splitlines() if line[0].isdigit())
-    print('%d logs, %d lines, %d of them with the output on: no difference' % (count, lines, charging))
+            woken += wake_lines(setup, log)
+    print('%d logs, %d lines, %d of them with the output on, %d of these with the wake pair: no difference'
+          % (count, lines, charging, woken))
 
 
 if __name__ == '__main__':

@@ -1,4 +1,4 @@
-"""A second reading of document 01: the events and the step.
+"""A second reading of document 01 and of request (i) of document 02: the events and the step.
 
 Each event works on a copy, which is thrown away when it raises Refused; a read gives its word back, all others None.
 """
@@ -14,6 +14,8 @@ def fresh_start(m):
     m.current = Request()
     m.voltage = Request()
     m.hold = False
+    m.wake_age = 0
+    m.spent = False
 
 
 def set_charge(m, nibble):
@@ -26,6 +28,7 @@ def request_word(m, request, word):
     request.word = word
     request.age = 0
     request.mark = True
+    m.spent = True
     if m.current.mark and m.voltage.mark:
         m.hold = False
 
@@ -48,6 +51,7 @@ def mode_word(m, word):
         if word & 1 << 3:
             m.current.word = 0
             m.voltage.word = 0
+            m.spent = True
 
 
 def state_word(m, word):
@@ -194,6 +198,7 @@ def ac_event(m, present):
     m.notice = True
     if present:
         m.power_by = 0
+        m.wake_age = 0
     else:
         fresh_start(m)
 
@@ -204,6 +209,8 @@ def tick(m):
             request.age += 1
         if request.age == 175:
             request.word = 0
+    if m.wake_age < 175:
+        m.wake_age += 1
 
 
 def settle(m):

@@ -1,11 +1,11 @@
-"""A second reading of document 01: the machine, and what can be seen of it.
+"""A second reading of document 01 and of request (i) of document 02: the machine, and what can be seen of it.
 
 Written from the paper and our readings of it, by somebody who had not seen the code.
 """
 from dataclasses import dataclass, field
 from typing import Optional
 
-PROGRAM_SETUP = (3, 3000, 2000, 18000, 16800, 9000, 10500)
+PROGRAM_SETUP = (3, 3000, 2000, 18000, 16800, 9000, 10500, 0, 16800)
 
 
 @dataclass
@@ -17,12 +17,16 @@ class Setup:
     safe_mv: int
     low_mv: int
     restart_mv: int
+    wake_ma: int                        # 0: no wake-up charge
+    wake_mv: int
 
     def good(self):
         return (self.supported in (1, 3, 7, 15)
                 and 1 <= self.safe_ma <= self.largest_ma <= 65534
                 and 1 <= self.safe_mv <= self.largest_mv <= 65534
-                and 0 < self.low_mv < self.restart_mv <= 65535)
+                and 0 < self.low_mv < self.restart_mv <= 65535
+                and self.wake_ma <= min(100, self.safe_ma)
+                and 1 <= self.wake_mv <= self.safe_mv)
 
 
 @dataclass
@@ -54,6 +58,8 @@ class Machine:
     voltage: Request = field(default_factory=Request)
     hold: bool = False
     inhibit: bool = False
+    wake_age: int = 0                   # ticks since the later of fresh start and AC arrival, up to 175
+    spent: bool = False                 # a request word or a zeroing since the fresh start
 
 
 class Refused(Exception):
@@ -81,7 +87,7 @@ def bad_machine(m):
     for nibble in (m.smb, m.power_by, m.charge, m.use_next):
         if nibble != 0 and not one_supported_bay(m.setup, nibble):
             return True
-    if m.current.age > 175 or m.voltage.age > 175:
+    if m.current.age > 175 or m.voltage.age > 175 or m.wake_age > 175:
         return True
     for b, bay in enumerate(m.bays):
         if bay.present and not (m.setup.supported >> b) & 1:
@@ -136,14 +142,28 @@ def limited(word, largest, safe):
     return safe if word == 65535 else min(word, largest)
 
 
-def output(m):
-    """(mA, mV)"""
-    if (m.ac and present_at(m, m.charge)
+def may_flow(m):
+    """Facts (a) to (d) and (h), which both pairs need."""
+    return (m.ac and present_at(m, m.charge)
             and signal(bay_of(m, m.charge).ohms) in (0, COLD)
-            and not m.inhibit and not m.hold
-            and m.current.word != 0 and m.voltage.word != 0):
+            and not m.inhibit and not m.hold)
+
+
+def requested(m):
+    return may_flow(m) and m.current.word != 0 and m.voltage.word != 0
+
+
+def waking(m):
+    return may_flow(m) and not m.spent and m.wake_age < 175 and m.setup.wake_ma != 0
+
+
+def output(m):
+    """(mA, mV): the requested pair, the wake pair or zero."""
+    if requested(m):
         return (limited(m.current.word, m.setup.largest_ma, m.setup.safe_ma),
                 limited(m.voltage.word, m.setup.largest_mv, m.setup.safe_mv))
+    if waking(m):
+        return (m.setup.wake_ma, m.setup.wake_mv)
     return (0, 0)
 
 

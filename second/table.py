@@ -69,14 +69,15 @@ def with_register(machine, numbers):
         13: (m.current, 'mark', True), 14: (m.voltage, 'word', False),
         15: (m.voltage, 'age', False), 16: (m.voltage, 'mark', True),
         17: (m, 'hold', True), 18: (m, 'inhibit', True), 19: (m, 'ac', True),
-        20: (m, 'notice', True),
+        20: (m, 'notice', True), 25: (m.setup, 'wake_ma', False),
+        26: (m.setup, 'wake_mv', False), 27: (m, 'wake_age', False), 28: (m, 'spent', True),
     }[register]
     setattr(where, name, bool(value) if flag else value)
     return m
 
 
 def handed_row(machine, letter, numbers):
-    count = 3 if numbers[0] >= 21 else 2
+    count = 3 if 21 <= numbers[0] <= 24 else 2
     handed = with_register(machine, numbers[:count])
     text, _ = event_row(handed, letter, numbers[count:])
     return kept(machine, handed) + ' |' + text

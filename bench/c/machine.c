@@ -1,7 +1,7 @@
 /* What a machine shows: whether it is refused, its output, the words that the host reads. */
 #include "shelf.h"
 
-static const struct setup program_setup = {3, {3000, 2000}, {18000, 16800}, 9000, 10500};
+static const struct setup program_setup = {3, {3000, 2000}, {18000, 16800}, 9000, 10500, {0, 16800}};
 
 /* Whether 1 <= safe <= largest <= 65534. */
 static bool is_good_limit(const struct limit *l)
@@ -9,12 +9,19 @@ static bool is_good_limit(const struct limit *l)
     return 1 <= l->safe && l->safe <= l->largest && l->largest <= 65534;
 }
 
-/* Whether a setup is in its ranges: refusal 1 where it is not. */
-static bool is_good_setup(const struct setup *s)
+/* Whether a wake pair is in its ranges, the voltage also where the current is 0. */
+static bool is_good_wake(const struct setup *s)
+{
+    return s->wake.milliamps <= 100 && s->wake.milliamps <= s->current.safe
+        && 1 <= s->wake.millivolts && s->wake.millivolts <= s->voltage.safe;
+}
+
+/* Whether a setup is in its ranges: refusal 1 where it is not. Inline, since it is asked at every step. */
+static inline bool is_good_setup(const struct setup *s)
 {
     return (s->supported == 1 || s->supported == 3 || s->supported == 7 || s->supported == 15)
         && is_good_limit(&s->current) && is_good_limit(&s->voltage)
-        && 0 < s->low && s->low < s->restart;
+        && 0 < s->low && s->low < s->restart && is_good_wake(s);
 }
 
 /* Whether a nibble is 0 or one supported bay. */
@@ -36,7 +43,7 @@ static bool is_bad(const struct machine *m)
     return !is_good_setup(&m->setup)
         || !is_one_of(supported, m->smb) || !is_one_of(supported, m->power)
         || !is_one_of(supported, m->charge) || !is_one_of(supported, m->next)
-        || m->current.age > OLDEST || m->voltage.age > OLDEST
+        || m->current.age > OLDEST || m->voltage.age > OLDEST || m->wake_age > OLDEST
         || is_stray(&m->bays[0], supported & 1) || is_stray(&m->bays[1], supported & 2)
         || is_stray(&m->bays[2], supported & 4) || is_stray(&m->bays[3], supported & 8);
 }
@@ -84,14 +91,20 @@ static bool allows_charging(const struct bay *bay)
     return bay->was_read && 3000 <= bay->ohms && bay->ohms <= 100000;
 }
 
-/* What the charger supplies: both limited requests, or 0 and 0. */
-static struct output output_of(const struct machine *m)
+/* Whether wake-up is on and has not ended, by the time or by a word. */
+static bool is_waking(const struct machine *m)
+{
+    return !m->spent && m->wake_age < OLDEST && m->setup.wake.milliamps != 0;
+}
+
+/* What the charger supplies: both limited requests, the wake pair, or 0 and 0. Inline, since it is asked after every step. */
+static inline struct output output_of(const struct machine *m)
 {
     struct output none = {0, 0};
-    if (!m->ac || m->inhibit || m->hold || m->current.word == 0 || m->voltage.word == 0)
+    if (!m->ac || m->inhibit || m->hold || !is_present(m, m->charge) || !allows_charging(bay_named(m, m->charge)))
         return none;
-    if (!is_present(m, m->charge) || !allows_charging(bay_named(m, m->charge)))
-        return none;
+    if (m->current.word == 0 || m->voltage.word == 0)
+        return is_waking(m) ? m->setup.wake : none;
     struct output both = {limited(m->current.word, &m->setup.current), limited(m->voltage.word, &m->setup.voltage)};
     return both;
 }

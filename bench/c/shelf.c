@@ -2,12 +2,14 @@
    leaves the machine as it stood. */
 #include "machine.c"
 
-/* Forgets all that was asked of the charger. */
+/* Forgets all that was asked of the charger, and lets wake-up begin anew. */
 static void fresh_start(struct machine *m)
 {
     const struct request none = {0, 0, false};
     m->current = none;
     m->voltage = none;
+    m->wake_age = 0;
+    m->spent = false;
     m->hold = false;
 }
 
@@ -20,11 +22,12 @@ static void set_charge(struct machine *m, unsigned nibble)
     }
 }
 
-/* A request for current or voltage. */
+/* A request for current or voltage, which ends wake-up, even one for 0. */
 static void write_request(struct machine *m, struct request *r, uint16_t word)
 {
     const struct request written = {word, 0, true};
     *r = written;
+    m->spent = true;
     if (m->current.mark && m->voltage.mark)
         m->hold = false;
 }
@@ -50,7 +53,7 @@ static enum refusal write_charger(struct machine *m, uint8_t code, uint16_t word
     }
 }
 
-/* ChargerMode: bit 2 starts afresh, else bit 0 inhibits and bit 3 zeroes both requests. */
+/* ChargerMode: bit 2 starts afresh, else bit 0 inhibits and bit 3 zeroes both requests, which ends wake-up. */
 static void write_mode(struct machine *m, uint16_t word)
 {
     if (word & 4) {
@@ -62,6 +65,7 @@ static void write_mode(struct machine *m, uint16_t word)
     if (word & 8) {
         m->current.word = 0;
         m->voltage.word = 0;
+        m->spent = true;
     }
 }
 
@@ -203,17 +207,19 @@ static enum refusal set_terminal(struct machine *m, uint8_t b, uint16_t millivol
     return NONE;
 }
 
-/* AC comes or goes; said again, it changes nothing. */
+/* AC comes, and wake-up has its time from there, or goes; said again, it changes nothing. */
 static void set_ac(struct machine *m, bool present)
 {
     if (m->ac == present)
         return;
     m->ac = present;
     m->notice = true;
-    if (present)
+    if (present) {
         m->power = 0;
-    else
+        m->wake_age = 0;
+    } else {
         fresh_start(m);
+    }
 }
 
 /* A second more of a request's age; at 175 it ends. */
@@ -241,6 +247,8 @@ static enum refusal act(struct machine *m, const struct event *e, unsigned *word
     }
     grow_older(&m->current);
     grow_older(&m->voltage);
+    if (m->wake_age < OLDEST)
+        m->wake_age++;
     return NONE;
 }
 

@@ -13,12 +13,18 @@ struct limit {
     uint16_t safe;
 };
 
+struct output {
+    uint16_t milliamps;
+    uint16_t millivolts;
+};
+
 struct setup {
     uint16_t supported; /* the bays as a nibble */
     struct limit current;
     struct limit voltage;
     uint16_t low;
     uint16_t restart;
+    struct output wake; /* for a pack that has not asked yet; 0 mA switches it off */
 };
 
 struct bay {
@@ -35,9 +41,11 @@ struct request {
     bool mark; /* written since the latest alarm */
 };
 
-/* A nibble is 0 or the bit of one bay. */
+/* A nibble is 0 or the bit of one bay. AC and the notice fill the gap before the bays. */
 struct machine {
     struct setup setup;
+    bool ac;
+    bool notice;
     struct bay bays[BAYS];
     struct request current;
     struct request voltage;
@@ -45,10 +53,10 @@ struct machine {
     uint8_t power;
     uint8_t charge;
     uint8_t next;
+    uint8_t wake_age; /* ticks since the latest fresh start or, if later, AC arrival */
+    bool spent;       /* wake-up, by a request or a zeroing since the latest fresh start */
     bool hold;
     bool inhibit;
-    bool ac;
-    bool notice;
 };
 
 /* The kinds have the log's numbers. */
@@ -85,11 +93,6 @@ struct answer {
     enum { DONE, WORD, REFUSED } kind;
     uint16_t word;
     uint8_t refusal;
-};
-
-struct output {
-    uint16_t milliamps;
-    uint16_t millivolts;
 };
 
 #endif

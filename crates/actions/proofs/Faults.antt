@@ -21,8 +21,8 @@ use Rattle.model.specs.Refusals.{supports, unsupportedBay, notChargingBay, oneB
 use Rattle.model.specs.Step.{reply}
 use Rattle.model.proofs.Bools.{and-l, eqb-self}
 use Rattle.machine.specs.ByNumber.{bayIn}
-use Rattle.charger.specs.ByEvent.{freshIf}
-use Rattle.charger.proofs.Afresh.{Quiet, fresh-or-kept}
+use Rattle.charger.specs.ByEvent.{freshIf, arrivedIf}
+use Rattle.charger.proofs.Afresh.{Quiet, fresh-or-arrived}
 use Rattle.actions.specs.declared.Action.{Action}
 use Rattle.actions.specs.declared.Action.the-variants.{Insert, Remove, TakeSignal, TakeTerminal, Refuse}
 use Rattle.actions.specs.Meaning.{doneWith, shownWith, refusedWith, unsettled, meant, meantBy}
@@ -114,8 +114,8 @@ abbrev Reads : Event → Type 0
 Reads e = Quiet e × (is stateWord e ≡ false) × (is presetsWord e ≡ false) × (is acEvent e ≡ false) × (atBay e ≡ false) × (swaps e ≡ false)
 
 keeps : (m : Machine) (e : Event) → Reads e → act m e ≡ withNotice m (cond (is stateRead e) false (m .notice))
-unfolding act baysAfter acAfter acArrives acGoes smbAfter powerAfter dropsCharge chargeAfter nextAfter noticeAfter connects fresh resets swapsAt freshIf
-keeps m e (q, s, p, a, b, w) = simp (fresh-or-kept e q, q .3, s, p, a, b, w, eqb-self)
+unfolding act baysAfter acAfter acArrives acGoes smbAfter powerAfter dropsCharge chargeAfter nextAfter noticeAfter connects fresh resets swapsAt freshIf arrivedIf
+keeps m e (q, s, p, a, b, w) = simp (fresh-or-arrived e q, q .3, s, p, a, b, w, eqb-self)
 
 shows : (m : Machine) (e : Event) (w : ℕ) → fault m e ≡ 0 → reply m e ≡ word w → Reads e → meant m e ≡ shownWith w (withNotice m (cond (is stateRead e) false (m .notice)))
 unfolding unsettled

@@ -14,18 +14,19 @@ use Rattle.model.specs.ChargerRules.{fresh}
 use Rattle.model.specs.Machines.{withBays, act}
 use Rattle.model.proofs.Bools.{eqb-self}
 use Rattle.model.proofs.Computes.{computes}
-use Rattle.charger.proofs.Afresh.{fresh-or-kept}
+use Rattle.charger.proofs.Afresh.{fresh-or-arrived}
+use Rattle.charger.specs.ByEvent.{freshIf}
 use Rattle.bays.specs.ByEvent.{newPack, withBay, swapped, signalRead, terminalRead, acSet}
 
 -- a pack put in or pulled
 
 pub on-insertion : (m : Machine) (b : ℕ) → act m (Insertion b) ≡ swapped m b newPack
-unfolding computes swapped withBay
-on-insertion m b = simp (eqb-self, fresh-or-kept (Insertion b) (refl, refl, refl, refl, refl))
+unfolding computes swapped withBay freshIf
+on-insertion m b = simp (eqb-self, or-false)
 
 pub on-removal : (m : Machine) (b : ℕ) → act m (Removal b) ≡ swapped m b emptyBay
-unfolding computes swapped withBay
-on-removal m b = simp (eqb-self, fresh-or-kept (Removal b) (refl, refl, refl, refl, refl))
+unfolding computes swapped withBay freshIf
+on-removal m b = simp (eqb-self, or-false)
 
 -- a pack's signal and terminal voltage
 
@@ -81,4 +82,4 @@ notice-ac m p = simp (arrives, goes, either)
 
 pub on-ac : (m : Machine) (p : Bool) → act m (Ac p) ≡ acSet m p
 unfolding act baysAfter atBay acAfter smbAfter powerAfter chargeAfter connects dropsCharge nextAfter is kindOf kindNumber acSet
-on-ac m p = simp (fresh-ac, fresh-or-kept (Ac p) (refl, refl, refl, refl, refl), arrives, notice-ac, says)
+on-ac m p = simp (fresh-ac, fresh-or-arrived (Ac p) (refl, refl, refl, refl, refl), arrives, notice-ac, says)

@@ -11,7 +11,7 @@ use Rattle.model.specs.If.{if_then_else_}
 use Rattle.model.specs.Words.{names}
 use Rattle.model.specs.Bays.{bayAt, fourBays}
 use Rattle.model.specs.Machines.{withBays, withCharger, withSelector, withAc, withNotice}
-use Rattle.charger.specs.ByEvent.{freshIf}
+use Rattle.charger.specs.ByEvent.{freshIf, arrivedIf}
 
 -- a pack that was just put in
 abbrev pub newPack : Bay
@@ -39,12 +39,12 @@ terminalRead here s bay v =
       reading = bay .reading;
     }
 
--- AC goes: a fresh start; AC arrives: POWER_BY 0; either sets the notice
+-- AC goes: a fresh start; AC arrives: wake-up counts anew, POWER_BY 0; either sets the notice
 unfoldable pub acSet : Machine → Bool → Machine
 acSet m present =
     withNotice
     (withAc
-    (withSelector (withCharger m (freshIf (m .ac && not present) (m .charger)))
+    (withSelector (withCharger m (arrivedIf (not (m .ac) && present) (freshIf (m .ac && not present) (m .charger))))
     (record { smb = m .selector .smb; power = if not (m .ac) && present then 0 else m .selector .power; charge = m .selector .charge; next = m .selector .next }))
     present)
     (not (m .ac) && present || m .ac && not present || m .notice)

@@ -136,7 +136,7 @@ pub fn set_ac(m: Machine, present: bool) -> Machine
         next: m.selector.next,
     };
     let mut n = m;
-    n.charger = charger::fresh_if(goes, m.charger);
+    n.charger = charger::arrive_if(arrives, charger::fresh_if(goes, m.charger));
     n.selector = selector;
     n.ac = present;
     n.notice = arrives | goes | m.notice;

@@ -3,6 +3,8 @@ use mathlib.Core.Path.{sym, _∙_}
 use Rattle.model.proofs.Outcomes.{OneOutcome}
 use Rattle.charger.proofs.fresh_if.Kinds as fresh-if-kinds
 use Rattle.charger.proofs.fresh_if.Reads as fresh-if-reads
+use Rattle.charger.proofs.arrive_if.Kinds as arrive-if-kinds
+use Rattle.charger.proofs.arrive_if.Reads as arrive-if-reads
 use Rattle.charger.proofs.set_current.Kinds as set-current-kinds
 use Rattle.charger.proofs.set_current.Reads as set-current-reads
 use Rattle.charger.proofs.set_voltage.Kinds as set-voltage-kinds
@@ -20,6 +22,9 @@ use Rattle.charger.proofs.status_word.Reads as status-word-reads
 
 pub fresh-if-one : OneOutcome fresh-if-kinds.ps fresh-if-kinds.r fresh-if-reads.Post
 fresh-if-one κs a x y s t p q = p ∙ sym q
+
+pub arrive-if-one : OneOutcome arrive-if-kinds.ps arrive-if-kinds.r arrive-if-reads.Post
+arrive-if-one κs a x y s t p q = p ∙ sym q
 
 pub set-current-one : OneOutcome set-current-kinds.ps set-current-kinds.r set-current-reads.Post
 set-current-one κs a x y s t p q = p ∙ sym q

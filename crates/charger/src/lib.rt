@@ -1,17 +1,18 @@
-// The charger's words, a tick, a fresh start, the output and the status word.
+// The charger's words, a tick, a fresh start, AC arriving, the output and the status word.
 use model::Bay;
 use model::Charger;
 use model::Limit;
 use model::Machine;
 use model::Output;
 use model::Request;
+use model::Wake;
 ghost use mathlib.Core.Path.{_≡_};
 ghost use Prim.Native.Nat.{_≤_};
 ghost use Rattle.model.specs.declared.Event.the-variants as event;
 ghost use Rattle.model.specs.ChargerRules as rules;
 ghost use Rattle.model.specs.Machines.{act};
-ghost use Rattle.model.specs.Reads.{charging, output, aboveLargest, signalBits, statusWord};
-ghost use Rattle.charger.specs.ByEvent.{droppedIf, freshIf, justAsked, currentSet, voltageSet, remarked, alarmSet, aged, ticked, zeroed, modeSet};
+ghost use Rattle.model.specs.Reads.{ready, charging, waking, output, aboveLargest, signalBits, statusWord};
+ghost use Rattle.charger.specs.ByEvent.{droppedIf, begunIf, spentIf, freshIf, arrivedIf, justAsked, currentSet, voltageSet, remarked, alarmSet, aged, ticked, zeroed, modeSet};
 
 // A request, cleared where the event is a fresh start.
 fn drop_if(start: bool, q: Request) -> Request
@@ -24,6 +25,26 @@ fn drop_if(start: bool, q: Request) -> Request
     }
 }
 
+// Wake-up, begun anew where the event is a fresh start.
+fn begin_if(start: bool, w: Wake) -> Wake
+    ensures { λ r. ⌜ r ≡ begunIf start w ⌝ }
+{
+    Wake {
+        age: words::choose(start, 0, w.age),
+        spent: words::choose_bool(start, false, w.spent),
+    }
+}
+
+// Wake-up, spent where something was asked.
+fn spend_if(asked: bool, w: Wake) -> Wake
+    ensures { λ r. ⌜ r ≡ spentIf asked w ⌝ }
+{
+    Wake {
+        age: w.age,
+        spent: words::choose_bool(asked, true, w.spent),
+    }
+}
+
 // A charger, cleared where the event is a fresh start; the inhibit state stays.
 pub fn fresh_if(start: bool, c: Charger) -> Charger
     ensures { λ r. ⌜ r ≡ freshIf start c ⌝ }
@@ -33,6 +54,24 @@ pub fn fresh_if(start: bool, c: Charger) -> Charger
         voltage: drop_if(start, c.voltage),
         hold: words::choose_bool(start, false, c.hold),
         inhibit: c.inhibit,
+        wake: begin_if(start, c.wake),
+    }
+}
+
+// A charger, its wake-up counted anew where AC arrives.
+pub fn arrive_if(arrives: bool, c: Charger) -> Charger
+    ensures { λ r. ⌜ r ≡ arrivedIf arrives c ⌝ }
+{
+    let wake = Wake {
+        age: words::choose(arrives, 0, c.wake.age),
+        spent: c.wake.spent,
+    };
+    Charger {
+        current: same(c.current),
+        voltage: same(c.voltage),
+        hold: c.hold,
+        inhibit: c.inhibit,
+        wake: wake,
     }
 }
 
@@ -67,6 +106,7 @@ fn take_current(c: Charger, word: u16) -> Charger
         voltage: same(c.voltage),
         hold: words::choose_bool(c.voltage.mark, false, c.hold),
         inhibit: c.inhibit,
+        wake: spend_if(true, c.wake),
     }
 }
 
@@ -79,6 +119,7 @@ fn take_voltage(c: Charger, word: u16) -> Charger
         voltage: ask(word),
         hold: words::choose_bool(c.current.mark, false, c.hold),
         inhibit: c.inhibit,
+        wake: spend_if(true, c.wake),
     }
 }
 
@@ -103,6 +144,7 @@ fn take_alarm(c: Charger, word: u16) -> Charger
         voltage: remark(alarm, c.voltage),
         hold: alarm,
         inhibit: c.inhibit,
+        wake: spend_if(false, c.wake),
     }
 }
 
@@ -125,15 +167,20 @@ fn age_one(q: Request) -> Request
     }
 }
 
-// A tick: each request has an age of its own.
-fn age_both(c: Charger) -> Charger
+// A tick: each request has an age of its own, and so has wake-up.
+fn age_all(c: Charger) -> Charger
     ensures { λ r. ⌜ r ≡ ticked c ⌝ }
 {
+    let wake = Wake {
+        age: older(c.wake.age),
+        spent: c.wake.spent,
+    };
     Charger {
         current: age_one(c.current),
         voltage: age_one(c.voltage),
         hold: c.hold,
         inhibit: c.inhibit,
+        wake: wake,
     }
 }
 
@@ -159,6 +206,7 @@ fn take_mode(c: Charger, word: u16) -> Charger
         voltage: drop_if(reset, zero(on, c.voltage)),
         hold: words::choose_bool(reset, false, c.hold),
         inhibit: words::choose_bool(reset, false, words::bit(word, 0)),
+        wake: begin_if(reset, spend_if(on, c.wake)),
     }
 }
 
@@ -194,12 +242,12 @@ pub fn set_mode(m: Machine, word: u16) -> Machine
 pub fn tick(m: Machine) -> Machine
     ensures { λ r. ⌜ r ≡ act m event.Tick ⌝ }
 {
-    machine::with_charger(m, age_both(m.charger))
+    machine::with_charger(m, age_all(m.charger))
 }
 
-// AC and the CHARGE bay are present, its signal allows charging, no inhibit, no hold, and both requests are there.
-fn is_charging(m: Machine) -> bool
-    ensures { λ r. ⌜ r ≡ charging m ⌝ }
+// AC and the CHARGE bay are present, its signal allows charging, no inhibit, no hold.
+fn is_ready(m: Machine) -> bool
+    ensures { λ r. ⌜ r ≡ ready m ⌝ }
 {
     let bays = m.bays;
     let bay = machine::named_bay(bays, m.selector.charge);
@@ -209,11 +257,23 @@ fn is_charging(m: Machine) -> bool
         & board::is_allowed(board::class_read(reading))
         & !m.charger.inhibit
         & !m.charger.hold
-        & (m.charger.current.word != 0)
-        & (m.charger.voltage.word != 0)
 }
 
-// The charge output: both requests cut to the limits, or 0 mA and 0 mV.
+// And both requests are there.
+fn is_charging(m: Machine) -> bool
+    ensures { λ r. ⌜ r ≡ charging m ⌝ }
+{
+    is_ready(m) & (m.charger.current.word != 0) & (m.charger.voltage.word != 0)
+}
+
+// Or wake-up is switched on, not spent, and its 175th tick is still to come.
+fn is_waking(m: Machine) -> bool
+    ensures { λ r. ⌜ r ≡ waking m ⌝ }
+{
+    is_ready(m) & (m.setup.wake.milliamps != 0) & !m.charger.wake.spent & (m.charger.wake.age < 175)
+}
+
+// The charge output: both requests cut to the limits, the wake pair, or 0 mA and 0 mV.
 pub fn output_of(m: Machine) -> Output
     ensures { λ r. ⌜ r ≡ output m ⌝ }
 {
@@ -222,6 +282,8 @@ pub fn output_of(m: Machine) -> Output
             milliamps: board::limit(m.setup.current, m.charger.current.word),
             millivolts: board::limit(m.setup.voltage, m.charger.voltage.word),
         }
+    } else if is_waking(m) {
+        m.setup.wake
     } else {
         Output {
             milliamps: 0,

@@ -101,15 +101,15 @@ module _ (w : List ℕ) where
 -- THE WORD OF A NUMBER
 
 -- a number held at 2 ^ 32 gives the same word
-same-word : (n : ℕ) → wordFor (min n 4294967296) ≡ wordFor n
+same-word : (beyond n : ℕ) → wordFor beyond (min n 4294967296) ≡ wordFor beyond n
 unfolding wordFor
-same-word n = go (leb n 65535) refl
+same-word beyond n = go (leb n 65535) refl
   where
-    go : (b : Bool) → leb n 65535 ≡ b → wordFor (min n 4294967296) ≡ wordFor n
-    go true q = let l = leb-true n 65535 q in let same : min n 4294967296 ≡ n = omega arith in ap wordFor same
+    go : (b : Bool) → leb n 65535 ≡ b → wordFor beyond (min n 4294967296) ≡ wordFor beyond n
+    go true q = let l = leb-true n 65535 q in let same : min n 4294967296 ≡ n = omega arith in ap (wordFor beyond) same
     go false q = let l = leb-false n 65535 q in rw (lt-leb (min n 4294967296) 65535 (omega arith), q)
 
-pub figure-for : (n : Number) → record { word = wordFor (valueOf n .value); «is_good» = valueOf n .«is_number» } ≡ figureFor n
+pub figure-for : (beyond : ℕ) (n : Number) → record { word = wordFor beyond (valueOf n .value); «is_good» = valueOf n .«is_number» } ≡ figureFor beyond n
 unfolding valueOf wordFor figureFor
-figure-for (number n) = rw same-word
-figure-for none = refl
+figure-for beyond (number n) = rw same-word
+figure-for beyond none = refl

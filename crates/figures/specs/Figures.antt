@@ -13,19 +13,19 @@ unfoldable pub valueOf : Number → Value
 valueOf (number n) = record { value = min n 4294967296; «is_number» = true }
 valueOf none = record { value = 0; «is_number» = false }
 
--- a number as a word; above 65535 it is 0, which no place of a setup may hold
-unfoldable pub wordFor : ℕ → ℕ
-wordFor n = if leb n 65535 then n else 0
+-- a number as a word; above 65535 another word stands for it
+unfoldable pub wordFor : ℕ → ℕ → ℕ
+wordFor beyond n = if leb n 65535 then n else beyond
 
 -- no number
 abbrev pub noFigure : Figure
 noFigure = record { word = 0; «is_good» = false }
 
 -- a number of a setup, or none
-unfoldable pub figureFor : Number → Figure
-figureFor (number n) = record { word = wordFor n; «is_good» = true }
-figureFor none = noFigure
+unfoldable pub figureFor : ℕ → Number → Figure
+figureFor beyond (number n) = record { word = wordFor beyond n; «is_good» = true }
+figureFor beyond none = noFigure
 
 -- the number that decimal digits spell; a text without any, or with another byte, is none
-unfoldable pub figureOf : List ℕ → Figure
-figureOf t = figureFor (spelled 10 t)
+unfoldable pub figureOf : ℕ → List ℕ → Figure
+figureOf beyond t = figureFor beyond (spelled 10 t)

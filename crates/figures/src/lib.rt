@@ -10,8 +10,7 @@ pub struct Value {
     pub is_number: bool,
 }
 
-// A number of a setup, if the text is one. 0 stands for a number above 65535, since a setup with 0 in any place is refused as that
-// number is.
+// A number of a setup, if the text is one.
 pub struct Figure {
     pub word: u16,
     pub is_good: bool,
@@ -28,13 +27,14 @@ pub fn number_in(word: &[u8]) -> Value
     }
 }
 
-// The number that a text spells in decimal digits, as a number of a setup.
-pub fn figure_in(text: &[u8]) -> Figure
-    ensures { λ r. ⌜ r ≡ figureOf (now (text .entry)) ⌝ }
+// The number that a text spells in decimal digits, as a number of a setup. For a number above 65535 the word `beyond` stands, which has
+// to be one that its place in a setup refuses as it would that number.
+pub fn figure_in(text: &[u8], beyond: u16) -> Figure
+    ensures { λ r. ⌜ r ≡ figureOf beyond (now (text .entry)) ⌝ }
 {
     let found = digits_in(text, 10);
     Figure {
-        word: word_of(found.value),
+        word: word_of(found.value, beyond),
         is_good: found.is_number,
     }
 }
@@ -108,8 +108,9 @@ fn digit_in(b: u8) -> u64
     16
 }
 
-fn word_of(value: u64) -> u16
-    ensures { λ r. ⌜ r ≡ wordFor value ⌝ }
+// A number as a word, and another word for one that is too large.
+fn word_of(value: u64, beyond: u16) -> u16
+    ensures { λ r. ⌜ r ≡ wordFor beyond value ⌝ }
 {
-    if value <= 65535 { value as u16 } else { 0 }
+    if value <= 65535 { value as u16 } else { beyond }
 }

@@ -10,7 +10,7 @@ ghost use mathlib.Core.Bool.{cond};
 ghost use Rattle.model.specs.Bays.{emptyBay, bayNamed};
 ghost use Rattle.model.specs.Machines.{withBays, withCharger, withNotice};
 ghost use Rattle.model.specs.Reads.{presentNibble};
-ghost use Rattle.model.specs.Refusals.{supports, oneBay, goodLimit, goodSetup, wasRead, strayBay, strayBays, strayNibble, overAge, badMachine};
+ghost use Rattle.model.specs.Refusals.{supports, oneBay, goodLimit, goodWake, goodSetup, wasRead, strayBay, strayBays, strayNibble, overAge, badMachine};
 ghost use Rattle.machine.specs.ByNumber.{bayIn};
 
 // Whether 1 <= safe <= largest <= 65534.
@@ -18,6 +18,16 @@ fn is_good_limit(l: Limit) -> bool
     ensures { λ r. ⌜ r ≡ goodLimit l ⌝ }
 {
     (1 <= l.safe) & (l.safe <= l.largest) & (l.largest <= 65534)
+}
+
+// Whether the wake current is at most 100 and the safe current, and the wake voltage from 1 to the safe voltage.
+fn is_good_wake(s: Setup) -> bool
+    ensures { λ r. ⌜ r ≡ goodWake s ⌝ }
+{
+    (s.wake.milliamps <= 100)
+        & (s.wake.milliamps <= s.current.safe)
+        & (1 <= s.wake.millivolts)
+        & (s.wake.millivolts <= s.voltage.safe)
 }
 
 // Whether a setup is in its ranges: refusal 1 where it is not.
@@ -29,6 +39,7 @@ pub fn is_good_setup(s: Setup) -> bool
         & is_good_limit(s.current)
         & is_good_limit(s.voltage)
         & ((0 < s.low) & (s.low < s.restart) & (s.restart <= 65535))
+        & is_good_wake(s)
 }
 
 // Whether a bay is one of the four, and supported.
@@ -88,7 +99,7 @@ fn has_stray_nibble(m: Machine) -> bool
 fn is_over_age(m: Machine) -> bool
     ensures { λ r. ⌜ r ≡ overAge m ⌝ }
 {
-    (175 < m.charger.current.age) | (175 < m.charger.voltage.age)
+    (175 < m.charger.current.age) | (175 < m.charger.voltage.age) | (175 < m.charger.wake.age)
 }
 
 // Whether a machine that is handed in breaks a bound: refusal 15.

@@ -16,7 +16,7 @@ pub record Cell (request age word ticks : ℕ) : Type 0 where
   pub age-is : (word ≡ 0 → ⊥) → age ≡ min ticks 175
 
 -- a tick
-older-is : (age ticks : ℕ) → age ≡ min ticks 175 → older age ≡ min (suc ticks) 175
+pub older-is : (age ticks : ℕ) → age ≡ min ticks 175 → older age ≡ min (suc ticks) 175
 older-is age ticks e = go (ltb age 175) refl
   where
     go : (b : Bool) → ltb age 175 ≡ b → cond b (age + 1) age ≡ min (suc ticks) 175

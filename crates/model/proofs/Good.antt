@@ -14,11 +14,11 @@ use Rattle.model.specs.declared.Machine.{Machine}
 use Rattle.model.specs.Words.{bit, bayNumber, smbIn, powerIn, chargeIn, nextIn}
 use Rattle.model.specs.Events.{Kind, stateWord, presetsWord, insertion, removal, tick, is, atBay, wordOf, bayOf, fromBay, connects}
 use Rattle.model.specs.Bays.{bayAt, bayNamed, candidate, presentAfter, okAfter, lowAfter, readingAfter, bayAfter, okWritten, baysAfter}
-use Rattle.model.specs.SelectorRules.{written, smbAfter, dropsCharge, chargeAfter, nextAfter}
-use Rattle.model.specs.ChargerRules.{ageAfter}
+use Rattle.model.specs.SelectorRules.{acArrives, written, smbAfter, dropsCharge, chargeAfter, nextAfter}
+use Rattle.model.specs.ChargerRules.{fresh, older, ageAfter, wakeAgeAfter}
 use Rattle.model.specs.Machines.{programSetup, powerOn, act}
 use Rattle.model.specs.Settling.{settledPower, settle}
-use Rattle.model.specs.Refusals.{supports, oneBay, goodLimit, goodSetup, strayNibble, overAge, wasRead, strayBay, strayBays, badMachine, unsupportedBay, formed, stateFormed, badNibble, wrongPresence, refusal}
+use Rattle.model.specs.Refusals.{supports, oneBay, goodLimit, goodWake, goodSetup, strayNibble, overAge, wasRead, strayBay, strayBays, badMachine, unsupportedBay, formed, stateFormed, badNibble, wrongPresence, refusal}
 use Rattle.model.specs.Numbers.{done, refused}
 use Rattle.model.specs.Step.{Told, outcome, stepSpec, powerOnSpec}
 use Rattle.model.specs.Promises.{PowerOnIsGood, StepsStayGood, AlwaysGood}
@@ -45,12 +45,13 @@ record Good (m : Machine) : Type 0 where
   next : One (m .setup) (m .selector .next)
   current-age : m .charger .current .age ≤ 175
   voltage-age : m .charger .voltage .age ≤ 175
+  wake-age : m .charger .wake .age ≤ 175
   bays : Bayed (m .setup) (m .bays)
 
 good-accepted : (m : Machine) → Good m → badMachine m ≡ false
 unfolding badMachine strayNibble overAge strayBays One Bayed
 good-accepted m g =
-    simp (g .setup, g .smb, g .power, g .charge, g .next, le-ltb 175 _ (g .current-age), le-ltb 175 _ (g .voltage-age), g .bays 0 (omega arith), g .bays 1 (omega arith), g .bays 2 (omega arith), g .bays 3 (omega arith))
+    simp (g .setup, g .smb, g .power, g .charge, g .next, le-ltb 175 _ (g .current-age), le-ltb 175 _ (g .voltage-age), le-ltb 175 _ (g .wake-age), g .bays 0 (omega arith), g .bays 1 (omega arith), g .bays 2 (omega arith), g .bays 3 (omega arith))
 
 no-stray : (s : Setup) (bays : List Bay) → strayBays s bays ≡ false → Bayed s bays
 unfolding strayBays Bayed
@@ -79,6 +80,10 @@ good-of m q =
     let three = or-l (setup || strayNibble m || overAge m) (strayBays (m .setup) (m .bays)) q in
     let two = or-l (setup || strayNibble m) (overAge m) three in
     let ages = or-r (setup || strayNibble m) (overAge m) three in
+    let current = ltb 175 (m .charger .current .age) in
+    let voltage = ltb 175 (m .charger .voltage .age) in
+    let wake = ltb 175 (m .charger .wake .age) in
+    let requests = or-l (current || voltage) wake ages in
     let nibbles = no-stray-nibble m (or-r setup (strayNibble m) two) in
     record {
       setup = not-false _ (or-l setup (strayNibble m) two);
@@ -86,21 +91,25 @@ good-of m q =
       power = nibbles .1;
       charge = nibbles .2;
       next = nibbles .3;
-      current-age = ltb-false 175 _ (or-l (ltb 175 (m .charger .current .age)) (ltb 175 (m .charger .voltage .age)) ages);
-      voltage-age = ltb-false 175 _ (or-r (ltb 175 (m .charger .current .age)) (ltb 175 (m .charger .voltage .age)) ages);
+      current-age = ltb-false 175 _ (or-l current voltage requests);
+      voltage-age = ltb-false 175 _ (or-r current voltage requests);
+      wake-age = ltb-false 175 _ (or-r (current || voltage) wake ages);
       bays = no-stray (m .setup) (m .bays) (or-r (setup || strayNibble m || overAge m) (strayBays (m .setup) (m .bays)) q);
     }
 
 -- ages
 
+-- an age begins anew, grows by a tick or stays
+grown-small : (start : Bool) (e : Event) (age : ℕ) → age ≤ 175 → cond start 0 (cond (is tick e) (older age) age) ≤ 175
+grown-small start e age l =
+    choose (λ n. n ≤ 175) start _ _ (λ _. omega arith)
+    (λ _. choose (λ n. n ≤ 175) (is tick e) _ _
+    (λ _. choose (λ n. n ≤ 175) (ltb age 175) _ _ (λ q. omega (arith, ltb-true age 175 q)) (λ _. l))
+    (λ _. l))
+
 age-small : (f : Bool) (k : Kind) (e : Event) (r : Request) → r .age ≤ 175 → ageAfter f k e r ≤ 175
 unfolding ageAfter
-age-small f k e r l =
-    choose (λ n. n ≤ 175) f _ _ (λ _. omega arith)
-    (λ _. choose (λ n. n ≤ 175) (is k e) _ _ (λ _. omega arith)
-    (λ _. choose (λ n. n ≤ 175) (is tick e) _ _
-    (λ _. choose (λ n. n ≤ 175) (ltb (r .age) 175) _ _ (λ q. omega (arith, ltb-true (r .age) 175 q)) (λ _. l))
-    (λ _. l)))
+age-small f k e r l = choose (λ n. n ≤ 175) f _ _ (λ _. omega arith) (λ _. grown-small (is k e) e (r .age) l)
 
 -- bays
 
@@ -194,7 +203,7 @@ module _ (m : Machine) (e : Event) (p : Passes m e) (g : Good m) where
   power-one = of-power (One (m .setup)) (act m e) (candidate-one (m .setup) _ (bays-good m e p g)) (none-one (m .setup))
 
   good-step : Good (settle (act m e))
-  unfolding settle act
+  unfolding settle act wakeAgeAfter
   good-step =
       record {
         setup = g .setup;
@@ -204,6 +213,7 @@ module _ (m : Machine) (e : Event) (p : Passes m e) (g : Good m) where
         next = next-after;
         current-age = age-small _ _ _ _ (g .current-age);
         voltage-age = age-small _ _ _ _ (g .voltage-age);
+        wake-age = grown-small (fresh m e || acArrives m e) e _ (g .wake-age);
         bays = bays-good m e p g;
       }
 
@@ -226,11 +236,12 @@ good-power-on s g =
       next = none-one s;
       current-age = omega arith;
       voltage-age = omega arith;
+      wake-age = omega arith;
       bays = λ b l. rw (empty-at s b l);
     }
 
 pub power-on-is-good : PowerOnIsGood
-unfolding powerOnSpec goodSetup goodLimit
+unfolding powerOnSpec goodSetup goodLimit goodWake
 power-on-is-good s = go (goodSetup s) refl
   where
     go : (t : Bool) → goodSetup s ≡ t →

@@ -1,5 +1,5 @@
 -- Every promise of `specs/Promises.antt`, proved: a line each, with the file that has the argument.
-use Rattle.model.specs.Promises.{OutputIsTold, ExactlyEight, CutToTheLimits, FactsCanHold, CountedFrom, RunsOut, RunsOutWhateverComes, RefusalChangesNothing, BadMachineFirst, PowerOnIsGood, StepsStayGood, AlwaysGood, Never15, TicksAndAcHeard, RefusalsApart, AnswersApart, StepsApart, KindsApart, SupplyKept, SettledOnce, AllSettled, TableHolds, TimersHold, EdgesHold, WorkedRunsHold}
+use Rattle.model.specs.Promises.{OutputIsTold, FlowsExactly, NeverTwo, CutToTheLimits, WakePairFlows, ExactlyEight, FactsCanHold, WakingCanHold, CountedFrom, RunsOut, RunsOutWhateverComes, WakeRunsOut, RefusalChangesNothing, BadMachineFirst, PowerOnIsGood, StepsStayGood, AlwaysGood, Never15, TicksAndAcHeard, RefusalsApart, AnswersApart, StepsApart, KindsApart, SupplyKept, SettledOnce, AllSettled, TableHolds, TimersHold, EdgesHold, WakeTimersHold, WorkedRunsHold}
 use Rattle.model.proofs.Demand3
 use Rattle.model.proofs.Exactly
 use Rattle.model.proofs.Origin
@@ -15,14 +15,26 @@ use Rattle.model.proofs.ByComputing
 pub output-is-told : OutputIsTold
 output-is-told = Demand3.output-is-told
 
-pub exactly-eight : ExactlyEight
-exactly-eight = Exactly.exactly-eight
+pub flows-exactly : FlowsExactly
+flows-exactly = Exactly.flows-exactly
+
+pub never-two : NeverTwo
+never-two = Exactly.never-two
 
 pub cut-to-the-limits : CutToTheLimits
 cut-to-the-limits = Exactly.cut-to-the-limits
 
+pub wake-pair-flows : WakePairFlows
+wake-pair-flows = Exactly.wake-pair-flows
+
+pub exactly-eight : ExactlyEight
+exactly-eight = Exactly.exactly-eight
+
 pub facts-can-hold : FactsCanHold
 facts-can-hold = ByComputing.facts-can-hold
+
+pub waking-can-hold : WakingCanHold
+waking-can-hold = ByComputing.waking-can-hold
 
 pub counted-from : CountedFrom
 counted-from = Origin.counted-from
@@ -32,6 +44,9 @@ runs-out = Exactly.runs-out
 
 pub runs-out-whatever-comes : RunsOutWhateverComes
 runs-out-whatever-comes = Later.runs-out-whatever-comes
+
+pub wake-runs-out : WakeRunsOut
+wake-runs-out = Exactly.wake-runs-out
 
 pub refusal-changes-nothing : RefusalChangesNothing
 refusal-changes-nothing = Passes.refusal-changes-nothing
@@ -84,5 +99,8 @@ timers-hold = ByComputing.timers-hold
 pub edges-hold : EdgesHold
 edges-hold = ByComputing.edges-hold
 
+pub wake-timers-hold : WakeTimersHold
+wake-timers-hold = ByComputing.wake-timers-hold
+
 pub worked-runs-hold : WorkedRunsHold
-worked-runs-hold = (ByComputing.listing-comes, ByComputing.status-comes, ByComputing.signal-comes, ByComputing.charger-comes, ByComputing.selector-comes, ByComputing.four-bays-come)
+worked-runs-hold = (ByComputing.listing-comes, ByComputing.status-comes, ByComputing.signal-comes, ByComputing.charger-comes, ByComputing.selector-comes, ByComputing.four-bays-come, ByComputing.wake-comes)

@@ -3,12 +3,13 @@ use Prim.Native.Nat.{ℕ, _+_}
 use mathlib.Core.Bool.{Bool, true, false, not, _&&_, _||_}
 use lib.Dec.{ltb, eqb}
 use Rattle.model.specs.declared.Request.{Request}
+use Rattle.model.specs.declared.Wake.{Wake}
 use Rattle.model.specs.declared.Charger.{Charger}
 use Rattle.model.specs.declared.Machine.{Machine}
 use Rattle.model.specs.declared.Event.{Event}
 use Rattle.model.specs.If.{if_then_else_}
 use Rattle.model.specs.Words.{bit}
-use Rattle.model.specs.Events.{Kind, currentWord, voltageWord, alarmWord, modeWord, tick, is, swapsAt, resets, zeroes, alarms, wordOf}
+use Rattle.model.specs.Events.{Kind, currentWord, voltageWord, alarmWord, modeWord, tick, is, swapsAt, resets, zeroes, asks, alarms, wordOf}
 use Rattle.model.specs.SelectorRules.{acGoes, chargeAfter}
 
 -- fresh start: POR_RESET; AC goes from present to absent; the CHARGE nibble changes value; a pack is put in or pulled at the CHARGE bay
@@ -77,12 +78,33 @@ inhibitAfter c e =
     else if is modeWord e then bit 0 (wordOf e)
     else c .inhibit
 
+-- Wake-up. `arrives`: AC goes from absent to present.
+
+-- its age counts the ticks from the later of the latest fresh start and the latest AC arrival, up to 175
+unfoldable pub wakeAgeAfter : Bool → Bool → Event → Wake → ℕ
+wakeAgeAfter start arrives e w =
+    if start || arrives then 0
+    else if is tick e then older (w .age)
+    else w .age
+
+-- a current word, a voltage word or a bit-3 zeroing spends it, until a fresh start
+unfoldable pub spentAfter : Bool → Event → Wake → Bool
+spentAfter start e w =
+    if start then false
+    else if asks e then true
+    else w .spent
+
+-- the two together
+abbrev pub wakeAfter : Bool → Bool → Event → Wake → Wake
+wakeAfter start arrives e w = record { age = wakeAgeAfter start arrives e w; spent = spentAfter start e w }
+
 -- all of the charger
-abbrev pub chargerAfter : Bool → Charger → Event → Charger
-chargerAfter start c e =
+abbrev pub chargerAfter : Bool → Bool → Charger → Event → Charger
+chargerAfter start arrives c e =
     record {
       current = cellAfter start currentWord e (c .current);
       voltage = cellAfter start voltageWord e (c .voltage);
       hold = holdAfter start c e;
       inhibit = inhibitAfter c e;
+      wake = wakeAfter start arrives e (c .wake);
     }

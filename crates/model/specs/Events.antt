@@ -159,6 +159,10 @@ resets e = is modeWord e && bit 2 (wordOf e)
 unfoldable pub zeroes : Event → Bool
 zeroes e = is modeWord e && not (bit 2 (wordOf e)) && bit 3 (wordOf e)
 
+-- a current word, a voltage word or a bit-3 zeroing: each ends wake-up until the next fresh start
+unfoldable pub asks : Event → Bool
+asks e = is currentWord e || is voltageWord e || zeroes e
+
 -- an AlarmWarning word that puts on the alarm hold
 unfoldable pub alarms : Event → Bool
 alarms e = is alarmWord e && alarming (wordOf e)

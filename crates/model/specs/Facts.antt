@@ -1,4 +1,4 @@
--- The eight facts, told from the events and their answers alone. No register is named here.
+-- The eight facts, and those of the wake pair, told from the events and their answers alone. No register is named here.
 use Prim.Native.Nat.{ℕ, suc, _<_}
 use mathlib.Core.Path.{_≡_}
 use mathlib.Core.Bool.{Bool, true, false, not, _&&_, _||_}
@@ -13,7 +13,7 @@ use Rattle.model.specs.If.{if_then_else_}
 use Rattle.model.specs.Numbers.{Said, done, word, refused}
 use Rattle.model.specs.Words.{bit, named, bayNumber, alarming, chargeIn, okIn}
 use Rattle.model.specs.Board.{limited, noOutput, allows}
-use Rattle.model.specs.Events.{Kind, currentWord, voltageWord, alarmWord, modeWord, presetsWord, insertion, removal, signal, acEvent, tick, is, isAt, wordOf, swapsAt, saysPresent, connects, resets, zeroes}
+use Rattle.model.specs.Events.{Kind, currentWord, voltageWord, alarmWord, modeWord, presetsWord, insertion, removal, signal, acEvent, tick, is, isAt, wordOf, swapsAt, saysPresent, connects, resets, zeroes, asks}
 
 -- an event and its answer
 pub record Entry : Type 0 where
@@ -159,6 +159,47 @@ eightHold s h =
 unfoldable pub requested : Setup → Past → Output
 requested s h = record { milliamps = limited (s .current) (asked currentWord h); millivolts = limited (s .voltage) (asked voltageWord h) }
 
--- the output that the facts tell
+-- WAKE-UP
+
+-- e, after the past h, is an AC arrival: AC from absent to present
+unfoldable pub acArrival : Event → Past → Bool
+acArrival e h = is acEvent e && not (acPresent h) && saysPresent e
+
+-- the events since the later of the latest fresh start and the latest AC arrival
+unfoldable pub sinceWake : Past → Past
+sinceWake [] = []
+sinceWake (e ∷ h) = if freshStart e h || acArrival e h then [] else e ∷ sinceWake h
+
+-- the facts of the wake pair, of a setup and a past
+pub record Waking (s : Setup) (h : Past) : Type 0 where
+  -- (a) to (d) and (h), as above
+  pub ac : acPresent h ≡ true
+  pub pack : packAt (connected h) h ≡ true
+  pub signal-allows : allows (reading (bayNumber (connected h)) h) ≡ true
+  pub not-inhibited : uninhibited h ≡ true
+  pub not-held : held (sinceFresh h) ≡ false
+  -- the wake current is not 0, which switches it off
+  pub switched-on : s .wake .milliamps ≡ 0 → ⊥
+  -- no current word, voltage word or bit-3 zeroing was accepted since the latest fresh start
+  pub unasked : some asks (sinceFresh h) ≡ false
+  -- fewer than 175 ticks followed the later of the latest fresh start and the latest AC arrival
+  pub in-time : ticks (sinceWake h) < 175
+
+-- the same as one test
+unfoldable pub wakeHolds : Setup → Past → Bool
+wakeHolds s h =
+    acPresent h
+    && packAt (connected h) h
+    && allows (reading (bayNumber (connected h)) h)
+    && uninhibited h
+    && not (held (sinceFresh h))
+    && not (eqb (s .wake .milliamps) 0)
+    && not (some asks (sinceFresh h))
+    && ltb (ticks (sinceWake h)) 175
+
+-- the output that the facts tell: the requested pair, the wake pair or zero
 unfoldable pub outputTold : Setup → Past → Output
-outputTold s h = if eightHold s h then requested s h else noOutput
+outputTold s h =
+    if eightHold s h then requested s h
+    else if wakeHolds s h then s .wake
+    else noOutput

@@ -13,15 +13,16 @@ use Rattle.model.specs.Refusals.{badMachine}
 abbrev pub nibblesSo : ℕ → ℕ → ℕ → ℕ → Machine
 nibblesSo smb power charge next = withSelector (powerOn programSetup) (record { smb = smb; power = power; charge = charge; next = next })
 
--- a request of each kind, of that age
-abbrev pub agesSo : ℕ → ℕ → Machine
-agesSo current voltage =
+-- a request of each kind, and wake-up, of that age
+abbrev pub agesSo : ℕ → ℕ → ℕ → Machine
+agesSo current voltage wake =
     withCharger (powerOn programSetup)
     (record {
       current = record { word = 1500; age = current; mark = true };
       voltage = record { word = 16800; age = voltage; mark = true };
       hold = true;
       inhibit = true;
+      wake = record { age = wake; spent = true };
     })
 
 -- bay b so: present, OK, low and its reading
@@ -31,19 +32,23 @@ baySo b present ok low reading =
 
 -- supported bays so
 abbrev pub supportedSo : ℕ → Machine
-supportedSo n = powerOn (setupOf n 3000 2000 18000 16800 9000 10500)
+supportedSo n = powerOn (setupOf n 3000 2000 18000 16800 9000 10500 0 16800)
 
 -- largest and safe current so
 abbrev pub currentSo : ℕ → ℕ → Machine
-currentSo largest safe = powerOn (setupOf 3 largest safe 18000 16800 9000 10500)
+currentSo largest safe = powerOn (setupOf 3 largest safe 18000 16800 9000 10500 0 16800)
 
--- largest and safe voltage so
+-- largest and safe voltage so, with the least wake voltage
 abbrev pub voltageSo : ℕ → ℕ → Machine
-voltageSo largest safe = powerOn (setupOf 3 3000 2000 largest safe 9000 10500)
+voltageSo largest safe = powerOn (setupOf 3 3000 2000 largest safe 9000 10500 0 1)
 
 -- low and restart level so
 abbrev pub levelsSo : ℕ → ℕ → Machine
-levelsSo low restart = powerOn (setupOf 3 3000 2000 18000 16800 low restart)
+levelsSo low restart = powerOn (setupOf 3 3000 2000 18000 16800 low restart 0 16800)
+
+-- safe current, wake current and wake voltage so
+abbrev pub wakeSo : ℕ → ℕ → ℕ → Machine
+wakeSo safe milliamps millivolts = powerOn (setupOf 3 3000 safe 18000 16800 9000 10500 milliamps millivolts)
 
 -- those that 15 accepts
 unfoldable pub goodOnes : List Machine
@@ -51,7 +56,7 @@ goodOnes =
     nibblesSo 0 0 0 0
     ∷ nibblesSo 1 1 2 2
     ∷ nibblesSo 2 2 2 1
-    ∷ agesSo 175 175
+    ∷ agesSo 175 175 175
     ∷ baySo 0 true false true Unread
     ∷ baySo 1 true true false (Ohms 4294967295)
     ∷ supportedSo 1
@@ -63,6 +68,8 @@ goodOnes =
     ∷ voltageSo 65534 65534
     ∷ levelsSo 1 2
     ∷ levelsSo 65534 65535
+    ∷ wakeSo 2000 100 16800
+    ∷ wakeSo 50 50 1
     ∷ []
 
 -- those that 15 refuses
@@ -76,8 +83,9 @@ badOnes =
     ∷ nibblesSo 0 0 0 15
     ∷ nibblesSo 0 0 0 16
     -- an age above 175
-    ∷ agesSo 176 0
-    ∷ agesSo 0 176
+    ∷ agesSo 176 0 0
+    ∷ agesSo 0 176 0
+    ∷ agesSo 0 0 176
     -- presence of an unsupported bay
     ∷ baySo 2 true false false Unread
     ∷ baySo 3 true true false Unread
@@ -100,6 +108,10 @@ badOnes =
     ∷ levelsSo 9000 9000
     ∷ levelsSo 10500 9000
     ∷ levelsSo 9000 65536
+    ∷ wakeSo 2000 101 16800
+    ∷ wakeSo 50 51 16800
+    ∷ wakeSo 2000 0 0
+    ∷ wakeSo 2000 100 16801
     ∷ []
 
 -- what 15 says of each

@@ -17,5 +17,6 @@ pub mod Runs
 pub mod Origin
 pub mod Table
 pub mod Worked
+pub mod WakeAtWork
 pub mod Handed
 pub mod Promises

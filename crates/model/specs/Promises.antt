@@ -20,11 +20,12 @@ use Rattle.model.specs.Settling.{settle}
 use Rattle.model.specs.Reads.{output}
 use Rattle.model.specs.Refusals.{goodSetup, badMachine}
 use Rattle.model.specs.Step.{told, stepSpec, powerOnSpec}
-use Rattle.model.specs.Facts.{some, ticks, ticksSince, Eight, requested, outputTold}
+use Rattle.model.specs.Facts.{Past, some, ticks, ticksSince, Eight, requested, sinceWake, Waking, outputTold}
 use Rattle.model.specs.Runs.{run, past, heardFrom}
 use Rattle.model.specs.Origin.{Counted}
 use Rattle.model.specs.Table.{charge, table, aged, timers, allSeen, allValues}
 use Rattle.model.specs.Handed.{goodOnes, badOnes, allBad, everyOne}
+use Rattle.model.specs.WakeAtWork.{wakeSetup, flat, dark, wakeTable, wakeAged, wakeTimers, wakeArrivals, wakeAtWork}
 use Rattle.model.specs.Worked.{Row, rerun, listing, statusWords, signalAtWork, chargerAtWork, selectorAtWork, fourBaysAtWork}
 
 -- DEMAND 3, for every setup and every list of events from power-on, refused ones included
@@ -33,28 +34,44 @@ use Rattle.model.specs.Worked.{Row, rerun, listing, statusWords, signalA
 abbrev pub OutputIsTold : Type 0
 OutputIsTold = (s : Setup) (es : List Event) → output (run s es) ≡ outputTold s (past s es)
 
--- it is not zero exactly when all eight facts hold
-abbrev pub ExactlyEight : Type 0
-ExactlyEight = (s : Setup) (es : List Event) → (output (run s es) ≡ noOutput → ⊥) ↔ Eight s (past s es)
+-- it is not zero exactly when all eight facts hold, or those of the wake pair
+abbrev pub FlowsExactly : Type 0
+FlowsExactly = (s : Setup) (es : List Event) → (output (run s es) ≡ noOutput → ⊥) ↔ (Eight s (past s es) ⊎ Waking s (past s es))
 
--- and then equals the two requests cut to the limits
+-- never both, whatever the past
+abbrev pub NeverTwo : Type 0
+NeverTwo = (s : Setup) (h : Past) → Eight s h → Waking s h → ⊥
+
+-- under the eight it equals the two requests cut to the limits
 abbrev pub CutToTheLimits : Type 0
 CutToTheLimits = (s : Setup) (es : List Event) → Eight s (past s es) → output (run s es) ≡ requested s (past s es)
+
+-- under those of the wake pair it is that pair
+abbrev pub WakePairFlows : Type 0
+WakePairFlows = (s : Setup) (es : List Event) → Waking s (past s es) → output (run s es) ≡ s .wake
+
+-- so with wake-up switched off it is not zero exactly when all eight facts hold
+abbrev pub ExactlyEight : Type 0
+ExactlyEight = (s : Setup) (es : List Event) → s .wake .milliamps ≡ 0 → (output (run s es) ≡ noOutput → ⊥) ↔ Eight s (past s es)
 
 -- the eight can hold: they do of a run that charges 1500 mA, after a word that asks 0 was refused
 abbrev pub FactsCanHold : Type 0
 FactsCanHold = Eight programSetup (past programSetup (charge 10000 1500 ++ BayWord 1 0x14 0 ∷ []))
 
+-- those of the wake pair can: they do of a run in which nothing was asked, after a word of the neighbour was refused
+abbrev pub WakingCanHold : Type 0
+WakingCanHold = Waking wakeSetup (past wakeSetup (flat 10000 ++ BayWord 1 0x14 1500 ∷ []))
+
 -- every counted request came from the host, or from the pack now in the charging bay, after it was put in and connected
 abbrev pub CountedFrom : Type 0
 CountedFrom = (s : Setup) (es : List Event) → Eight s (past s es) → Counted currentWord (past s es) × Counted voltageWord (past s es)
 
--- 175 ticks after the latest accepted current word, or voltage word, the output is zero, whatever else came
+-- 175 ticks after the latest accepted current word, or voltage word, the output is zero, whatever else came, unless the wake pair flows
 abbrev pub RunsOut : Type 0
 RunsOut =
     (s : Setup) (es : List Event) →
     (175 ≤ ticksSince currentWord (past s es)) ⊎ (175 ≤ ticksSince voltageWord (past s es)) →
-    output (run s es) ≡ noOutput
+    (Waking s (past s es) → ⊥) → output (run s es) ≡ noOutput
 
 -- the same of the list itself: after any events, once 175 ticks came among later ones of which no current word, or no voltage
 -- word, was accepted
@@ -62,7 +79,11 @@ abbrev pub RunsOutWhateverComes : Type 0
 RunsOutWhateverComes =
     (s : Setup) (es later : List Event) → 175 ≤ ticks later →
     (some (is currentWord) (heardFrom (run s es) later) ≡ false) ⊎ (some (is voltageWord) (heardFrom (run s es) later) ≡ false) →
-    output (run s (es ++ later)) ≡ noOutput
+    (Waking s (past s (es ++ later)) → ⊥) → output (run s (es ++ later)) ≡ noOutput
+
+-- 175 ticks after the later of the latest fresh start and the latest AC arrival it is zero, unless the requested pair flows
+abbrev pub WakeRunsOut : Type 0
+WakeRunsOut = (s : Setup) (es : List Event) → 175 ≤ ticks (sinceWake (past s es)) → (Eight s (past s es) → ⊥) → output (run s es) ≡ noOutput
 
 -- REFUSALS
 
@@ -146,7 +167,14 @@ EdgesHold = (allBad goodOnes ≡ everyOne false goodOnes) × (allBad badOnes ≡
 abbrev pub Comes : Setup → List Row → Type 0
 Comes s rows = rerun (powerOn s) rows ≡ rows
 
--- the paper's listing, its status words, the safety signal's edges, the charger and the selector at work, and a board with four bays
+-- when wake-up ends, and from when its ticks count
+abbrev pub WakeTimersHold : Type 0
+WakeTimersHold =
+    (allSeen (powerOn wakeSetup) wakeTable ≡ allValues wakeTable)
+    × (allSeen (wakeAged (flat 10000)) wakeTimers ≡ allValues wakeTimers)
+    × (allSeen (wakeAged dark) wakeArrivals ≡ allValues wakeArrivals)
+
+-- the paper's listing, its status words, the safety signal's edges, the charger and the selector at work, a board with four bays, and wake-up
 abbrev pub WorkedRunsHold : Type 0
 WorkedRunsHold =
     Comes programSetup listing
@@ -155,3 +183,4 @@ WorkedRunsHold =
     × Comes programSetup chargerAtWork
     × Comes programSetup selectorAtWork
     × Comes fourBaySetup fourBaysAtWork
+    × Comes wakeSetup wakeAtWork

@@ -18,18 +18,31 @@ use Rattle.model.specs.Bays.{bayAt, bayNamed, candidate}
 abbrev pub chargeBay : Machine → Bay
 chargeBay m = bayNamed (m .bays) (m .selector .charge)
 
--- AC and the CHARGE bay are present, its signal allows charging, there is no inhibit or hold and neither request is 0
-unfoldable pub charging : Machine → Bool
-charging m =
+-- AC and the CHARGE bay are present, its signal allows charging, there is no inhibit or hold
+unfoldable pub ready : Machine → Bool
+ready m =
     m .ac
     && chargeBay m .present
     && allows (chargeBay m .reading)
     && not (m .charger .inhibit)
     && not (m .charger .hold)
+
+-- and neither request is 0
+unfoldable pub charging : Machine → Bool
+charging m =
+    ready m
     && not (eqb (m .charger .current .word) 0)
     && not (eqb (m .charger .voltage .word) 0)
 
--- both limited values while charging; otherwise 0 mA and 0 mV
+-- or wake-up is switched on, not spent, and its 175th tick is still to come
+unfoldable pub waking : Machine → Bool
+waking m =
+    ready m
+    && not (eqb (m .setup .wake .milliamps) 0)
+    && not (m .charger .wake .spent)
+    && ltb (m .charger .wake .age) 175
+
+-- both limited values while charging; the wake pair while waking; otherwise 0 mA and 0 mV
 unfoldable pub output : Machine → Output
 output m =
     if charging m then
@@ -37,6 +50,7 @@ output m =
       milliamps = limited (m .setup .current) (m .charger .current .word);
       millivolts = limited (m .setup .voltage) (m .charger .voltage .word);
     }
+    else if waking m then m .setup .wake
     else noOutput
 
 -- 0x13 ChargerStatus

@@ -30,13 +30,22 @@ oneBay s n = eqb n 0 || named n && supports s (bayNumber n)
 unfoldable pub goodLimit : Limit → Bool
 goodLimit l = leb 1 (l .safe) && leb (l .safe) (l .largest) && leb (l .largest) 65534
 
--- supported bays 1, 3, 7 or 15; both limits; 0 < low < restart <= 65535
+-- wake current 0 to 100 and at most the safe current; wake voltage from 1 to the safe voltage
+unfoldable pub goodWake : Setup → Bool
+goodWake s =
+    leb (s .wake .milliamps) 100
+    && leb (s .wake .milliamps) (s .current .safe)
+    && leb 1 (s .wake .millivolts)
+    && leb (s .wake .millivolts) (s .voltage .safe)
+
+-- supported bays 1, 3, 7 or 15; both limits; 0 < low < restart <= 65535; the wake pair
 unfoldable pub goodSetup : Setup → Bool
 goodSetup s =
     (eqb (s .supported) 1 || eqb (s .supported) 3 || eqb (s .supported) 7 || eqb (s .supported) 15)
     && goodLimit (s .current)
     && goodLimit (s .voltage)
     && (ltb 0 (s .low) && ltb (s .low) (s .restart) && leb (s .restart) 65535)
+    && goodWake s
 
 -- 15: a machine handed in
 
@@ -50,7 +59,7 @@ strayNibble m =
 
 -- an age above 175
 unfoldable pub overAge : Machine → Bool
-overAge m = ltb 175 (m .charger .current .age) || ltb 175 (m .charger .voltage .age)
+overAge m = ltb 175 (m .charger .current .age) || ltb 175 (m .charger .voltage .age) || ltb 175 (m .charger .wake .age)
 
 -- there is a reading
 abbrev pub wasRead : Reading → Bool

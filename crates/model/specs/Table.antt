@@ -60,6 +60,7 @@ aged =
       voltage = record { word = 16800; age = 174; mark = true };
       hold = false;
       inhibit = false;
+      wake = record { age = 174; spent = true };
     })
 
 -- from there on: each request has a timer of its own, which only its own word restarts

@@ -6,14 +6,15 @@ pub struct Limit {
     pub safe: u16,
 }
 
-// What is fixed when the shelf is built: the supported bays as a nibble, the two limits in mA and mV, and the terminal
-// voltages in mV that set and clear a bay's low mark.
+// What is fixed when the shelf is built: the supported bays as a nibble, the two limits in mA and mV, the terminal voltages in mV
+// that set and clear a bay's low mark, and the wake pair, which is supplied to a pack that has not asked yet; 0 mA switches it off.
 pub struct Setup {
     pub supported: u16,
     pub current: Limit,
     pub voltage: Limit,
     pub low: u16,
     pub restart: u16,
+    pub wake: Output,
 }
 
 // The safety signal of a bay since its pack was put in.
@@ -45,11 +46,19 @@ pub struct Request {
     pub mark: bool,
 }
 
+// Wake-up: its age in ticks, from the later of the latest fresh start and the latest AC arrival; and whether it is spent, by a current
+// word, a voltage word or a zeroing of both requests since the latest fresh start.
+pub struct Wake {
+    pub age: u16,
+    pub spent: bool,
+}
+
 pub struct Charger {
     pub current: Request,
     pub voltage: Request,
     pub hold: bool,
     pub inhibit: bool,
+    pub wake: Wake,
 }
 
 // The four nibbles SMB, POWER_BY, CHARGE and USE_NEXT: each 0 or the bit of one bay.

@@ -39,11 +39,13 @@ fn show(name: &[u8], setup: Setup) {
 fn without_bays(s: Setup) -> Setup {
     let current = s.current;
     let voltage = s.voltage;
+    let wake = s.wake;
     Setup {
         supported: 0,
         current,
         voltage,
         low: s.low,
         restart: s.restart,
+        wake,
     }
 }

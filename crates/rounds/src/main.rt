@@ -55,7 +55,7 @@ fn all_rounds(log: &[u8], count: u16, is_stepping: bool) -> Total {
 fn count_given() -> Figure {
     let mut text = io::buffer();
     let n = os::arg(2, &mut text);
-    figure_in(&text[..n])
+    figure_in(&text[..n], 0)
 }
 
 // One round: up to the first bad record or the end.

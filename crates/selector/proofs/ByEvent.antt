@@ -9,7 +9,7 @@ use Rattle.model.specs.Words.{chargeIn}
 use Rattle.model.specs.SelectorRules.{written, chargeAfter}
 use Rattle.model.specs.Machines.{act}
 use Rattle.model.proofs.Computes.{computes}
-use Rattle.charger.proofs.Afresh.{fresh-or-kept}
+use Rattle.charger.specs.ByEvent.{freshIf}
 use Rattle.selector.specs.ByEvent.{stateSet, keptCharge, presetsSet}
 
 -- two ways round
@@ -26,9 +26,9 @@ unfolding computes keptCharge
 charge-presets m w = refl
 
 pub on-state : (m : Machine) (w : ℕ) → act m (HostWrite 0x14 0x01 w) ≡ stateSet m w
-unfolding computes stateSet
-on-state m w = simp (charge-state, fresh-or-kept (HostWrite 0x14 0x01 w) (refl, refl, refl, refl, refl), or-false)
+unfolding computes stateSet freshIf
+on-state m w = simp (charge-state, or-false)
 
 pub on-presets : (m : Machine) (w : ℕ) → act m (HostWrite 0x14 0x02 w) ≡ presetsSet m w
-unfolding computes presetsSet
-on-presets m w = simp (charge-presets, fresh-or-kept (HostWrite 0x14 0x02 w) (refl, refl, refl, refl, refl), or-false)
+unfolding computes presetsSet freshIf
+on-presets m w = simp (charge-presets, or-false)

@@ -5,11 +5,13 @@ use model::Charger;
 use model::Event;
 use model::Limit;
 use model::Machine;
+use model::Output;
 use model::Refusal;
 use model::Request;
 use model::Selector;
 use model::Setup;
 use model::Stepped;
+use model::Wake;
 ghost use mathlib.Core.Path.{_≡_};
 ghost use Rattle.model.specs.Machines.{programSetup, powerOn};
 ghost use Rattle.model.specs.Step.{told, stepSpec, powerOnSpec};
@@ -76,11 +78,16 @@ fn power_on_of(s: Setup) -> Machine
         age: 0,
         mark: false,
     };
+    let wake = Wake {
+        age: 0,
+        spent: false,
+    };
     let charger = Charger {
         current: none,
         voltage: none,
         hold: false,
         inhibit: false,
+        wake: wake,
     };
     let selector = Selector {
         smb: 0,
@@ -112,11 +119,16 @@ pub fn program_setup() -> Setup
         largest: 18000,
         safe: 16800,
     };
+    let wake = Output {
+        milliamps: 0,
+        millivolts: 16800,
+    };
     Setup {
         supported: 3,
         current: current,
         voltage: voltage,
         low: 9000,
         restart: 10500,
+        wake: wake,
     }
 }

@@ -1,12 +1,12 @@
 -- Actions that cannot unsettle a machine touch its charger and its notice alone, and the machine stays settled.
 use mathlib.Core.Path.{_≡_, refl, sym, ap, _∙_}
 use mathlib.Core.Bool.{Bool, true, false, not, _&&_, _||_, or-false, true≢false}
-use lib.Dec.{eqb}
+use lib.Dec.{ltb, eqb}
 use borrow.Author.Tests.{eqb-true}
 use Rattle.model.specs.declared.Charger.{Charger}
 use Rattle.model.specs.declared.Machine.{Machine}
 use Rattle.model.specs.Machines.{withSelector, withCharger, withNotice}
-use Rattle.model.specs.Reads.{charging, output}
+use Rattle.model.specs.Reads.{ready, charging, waking, output}
 use Rattle.model.specs.Settling.{unpowered, settledPower, settledSmb, powerChanged, settle}
 use Rattle.model.proofs.Bools.{and-l, and-r, eqb-self}
 use Rattle.charger.proofs.ByEvent.{on-current, on-voltage, on-alarm, on-mode, on-tick}
@@ -69,20 +69,26 @@ module _ (m : Machine) (c : Charger) (b : Bool) where
 
   -- and its output is that of m if the chargers are the same to it
   same-output : alike (m .charger) c ≡ true → output (withNotice (withCharger m c) b) ≡ output m
-  unfolding output charging alike
+  unfolding output ready charging waking alike
   same-output h =
       let current = eqb (m .charger .current .word) (c .current .word) in
       let voltage = eqb (m .charger .voltage .word) (c .voltage .word) in
       let hold = same (m .charger .hold) (c .hold) in
       let inhibit = same (m .charger .inhibit) (c .inhibit) in
-      let three = and-l (current && voltage && hold) inhibit h in
+      let spent = same (m .charger .wake .spent) (c .wake .spent) in
+      let over = same (ltb (m .charger .wake .age) 175) (ltb (c .wake .age) 175) in
+      let five = and-l (current && voltage && hold && inhibit && spent) over h in
+      let four = and-l (current && voltage && hold && inhibit) spent five in
+      let three = and-l (current && voltage && hold) inhibit four in
       let two = and-l (current && voltage) hold three in
       let k = m .charger in
       rw (
         eqb-true (k .current .word) (c .current .word) (and-l current voltage two),
         eqb-true (k .voltage .word) (c .voltage .word) (and-r current voltage two),
         is-same (k .hold) (c .hold) (and-r (current && voltage) hold three),
-        is-same (k .inhibit) (c .inhibit) (and-r (current && voltage && hold) inhibit h),
+        is-same (k .inhibit) (c .inhibit) (and-r (current && voltage && hold) inhibit four),
+        is-same (k .wake .spent) (c .wake .spent) (and-r (current && voltage && hold && inhibit) spent five),
+        is-same (ltb (k .wake .age) 175) (ltb (c .wake .age) 175) (and-r (current && voltage && hold && inhibit && spent) over h),
       )
 
 module _ (m n : Machine) (a : Alone m n) where

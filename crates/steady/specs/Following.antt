@@ -1,6 +1,6 @@
 -- An event on a machine that is held from event to event: what it comes to, and what is known of the machine after it.
 use mathlib.Core.Bool.{Bool, true, false, not, _&&_, _||_}
-use lib.Dec.{eqb}
+use lib.Dec.{ltb, eqb}
 use Rattle.model.specs.declared.Charger.{Charger}
 use Rattle.model.specs.declared.Machine.{Machine}
 use Rattle.model.specs.declared.Event.{Event}
@@ -51,9 +51,15 @@ unsettles (Refuse why) = false
 unfoldable pub same : Bool → Bool → Bool
 same a b = if a then b else not b
 
--- two chargers are the same to the output: requests, hold and inhibit state
+-- two chargers are the same to the output: requests, hold and inhibit state, whether wake-up is spent and whether it is over
 unfoldable pub alike : Charger → Charger → Bool
-alike a b = eqb (a .current .word) (b .current .word) && eqb (a .voltage .word) (b .voltage .word) && same (a .hold) (b .hold) && same (a .inhibit) (b .inhibit)
+alike a b =
+    eqb (a .current .word) (b .current .word)
+    && eqb (a .voltage .word) (b .voltage .word)
+    && same (a .hold) (b .hold)
+    && same (a .inhibit) (b .inhibit)
+    && same (a .wake .spent) (b .wake .spent)
+    && same (ltb (a .wake .age) 175) (ltb (b .wake .age) 175)
 
 -- an action done: a machine that has settled settles anew only where the action can unsettle it
 unfoldable pub doneBy : Machine → Action → Bool → Told

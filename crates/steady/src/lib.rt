@@ -120,8 +120,11 @@ fn unsettles(action: Action) -> bool
 fn is_alike(a: Charger, b: Charger) -> bool
     ensures { λ r. ⌜ r ≡ following.alike a b ⌝ }
 {
+    let is_on = b.wake.age < 175;
     (a.current.word == b.current.word)
         & (a.voltage.word == b.voltage.word)
         & words::choose_bool(a.hold, b.hold, !b.hold)
         & words::choose_bool(a.inhibit, b.inhibit, !b.inhibit)
+        & words::choose_bool(a.wake.spent, b.wake.spent, !b.wake.spent)
+        & words::choose_bool(a.wake.age < 175, is_on, !is_on)
 }

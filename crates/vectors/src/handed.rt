@@ -4,10 +4,12 @@ use model::Bay;
 use model::Charger;
 use model::Limit;
 use model::Machine;
+use model::Output;
 use model::Reading;
 use model::Request;
 use model::Selector;
 use model::Setup;
+use model::Wake;
 use words::choose;
 use words::choose_bool;
 
@@ -60,6 +62,19 @@ pub const OK: u32 = 22;
 pub const LOW: u32 = 23;
 
 pub const READING: u32 = 24;
+// Of wake-up.
+pub const WAKE_MA: u32 = 25;
+
+pub const WAKE_MV: u32 = 26;
+
+pub const WAKE_AGE: u32 = 27;
+
+pub const WAKE_SPENT: u32 = 28;
+
+// Whether a register is one of a bay.
+pub fn is_of_bay(register: u32) -> bool {
+    (PRESENT <= register) & (register <= READING)
+}
 
 // The machine with that value in that register. Of a bay, a is its number and b the value.
 pub fn with(m: Machine, register: u32, a: u32, b: u32) -> Machine {
@@ -93,12 +108,17 @@ fn with_setup(s: Setup, register: u32, value: u16) -> Setup {
         register == SAFE_MV,
         value,
     );
+    let wake = Output {
+        milliamps: choose(register == WAKE_MA, value, s.wake.milliamps),
+        millivolts: choose(register == WAKE_MV, value, s.wake.millivolts),
+    };
     Setup {
         supported: choose(register == SUPPORTED, value, s.supported),
         current,
         voltage,
         low: choose(register == LOW_MV, value, s.low),
         restart: choose(register == RESTART_MV, value, s.restart),
+        wake,
     }
 }
 
@@ -131,11 +151,16 @@ fn with_charger(c: Charger, register: u32, value: u16, is_set: bool) -> Charger 
         age: choose(register == VOLTAGE_AGE, value, y.age),
         mark: choose_bool(register == VOLTAGE_MARK, is_set, y.mark),
     };
+    let wake = Wake {
+        age: choose(register == WAKE_AGE, value, c.wake.age),
+        spent: choose_bool(register == WAKE_SPENT, is_set, c.wake.spent),
+    };
     Charger {
         current,
         voltage,
         hold: choose_bool(register == HOLD, is_set, c.hold),
         inhibit: choose_bool(register == INHIBIT, is_set, c.inhibit),
+        wake,
     }
 }
 

@@ -8,6 +8,7 @@ use crate::same;
 use model::Event;
 use model::Limit;
 use model::Machine;
+use model::Output;
 use model::Setup;
 use model::Stepped;
 
@@ -32,7 +33,7 @@ pub fn follow(m: Machine, letter: u8, numbers: Numbers) -> Machine {
 // The event behind a register and its value, or a bay's register, the bay and its value.
 fn event_behind(numbers: Numbers) -> Event {
     let n = numbers.of;
-    if handed::PRESENT <= n[0] {
+    if handed::is_of_bay(n[0]) {
         event_of(numbers.letter, n[3], n[4], n[5])
     } else {
         event_of(numbers.letter, n[2], n[3], n[4])
@@ -61,12 +62,17 @@ fn setup_of(numbers: Numbers) -> Setup {
         largest: word(n[3]),
         safe: word(n[4]),
     };
+    let wake = Output {
+        milliamps: word(n[7]),
+        millivolts: word(n[8]),
+    };
     Setup {
         supported: word(n[0]),
         current,
         voltage,
         low: word(n[5]),
         restart: word(n[6]),
+        wake,
     }
 }
 

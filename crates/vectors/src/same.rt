@@ -3,10 +3,12 @@ use model::Bay;
 use model::Charger;
 use model::Limit;
 use model::Machine;
+use model::Output;
 use model::Reading;
 use model::Request;
 use model::Selector;
 use model::Setup;
+use model::Wake;
 
 pub fn machines(a: Machine, b: Machine) -> bool {
     setups(a.setup, b.setup)
@@ -23,6 +25,11 @@ fn setups(a: Setup, b: Setup) -> bool {
         & limits(a.voltage, b.voltage)
         & (a.low == b.low)
         & (a.restart == b.restart)
+        & pairs(a.wake, b.wake)
+}
+
+fn pairs(a: Output, b: Output) -> bool {
+    (a.milliamps == b.milliamps) & (a.millivolts == b.millivolts)
 }
 
 fn limits(a: Limit, b: Limit) -> bool {
@@ -64,6 +71,11 @@ fn chargers(a: Charger, b: Charger) -> bool {
         & requests(a.voltage, b.voltage)
         & (a.hold == b.hold)
         & (a.inhibit == b.inhibit)
+        & wakes(a.wake, b.wake)
+}
+
+fn wakes(a: Wake, b: Wake) -> bool {
+    (a.age == b.age) & (a.spent == b.spent)
 }
 
 fn requests(a: Request, b: Request) -> bool {

@@ -6,7 +6,16 @@ returns : tie.Need-returns
 unfolding alike same
 returns c =
     let c2 = c .before .before in
-    simp (c .choose-bool2 .ensures, c2 .choose-bool .ensures)
+    let c4 = c2 .before .before in
+    let c6 = c4 .before .before in
+    simp (c .choose-bool4 .ensures, c2 .choose-bool3 .ensures, c4 .choose-bool2 .ensures, c6 .choose-bool .ensures)
 
 pub is-alike-spec : {M : Type 1} → statement M
-is-alike-spec = tie.close (tie.spec (λ c κs. tt) (λ c κs. tt) returns)
+is-alike-spec =
+    tie.close
+    (tie.spec
+    (λ c κs. tt)
+    (λ c κs. tt)
+    (λ c κs. tt)
+    (λ c κs. tt)
+    returns)
