@@ -259,14 +259,14 @@ fn is_ready(m: Machine) -> bool
         & !m.charger.hold
 }
 
-// And both requests are there.
+// Ready, and both requests are there.
 fn is_charging(m: Machine) -> bool
     ensures { λ r. ⌜ r ≡ charging m ⌝ }
 {
     is_ready(m) & (m.charger.current.word != 0) & (m.charger.voltage.word != 0)
 }
 
-// Or wake-up is switched on, not spent, and its 175th tick is still to come.
+// Ready, wake-up is switched on and not spent, and its 175th tick is still to come.
 fn is_waking(m: Machine) -> bool
     ensures { λ r. ⌜ r ≡ waking m ⌝ }
 {

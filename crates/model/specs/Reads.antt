@@ -27,18 +27,17 @@ ready m =
     && not (m .charger .inhibit)
     && not (m .charger .hold)
 
--- and neither request is 0
+-- ready, and neither request is 0
 unfoldable pub charging : Machine → Bool
 charging m =
     ready m
     && not (eqb (m .charger .current .word) 0)
     && not (eqb (m .charger .voltage .word) 0)
 
--- or wake-up is switched on, not spent, and its 175th tick is still to come
+-- ready, wake-up is switched on and not spent, and its 175th tick is still to come
 unfoldable pub waking : Machine → Bool
 waking m =
-    ready m
-    && not (eqb (m .setup .wake .milliamps) 0)
+    ready m && not (eqb (m .setup .wake .milliamps) 0)
     && not (m .charger .wake .spent)
     && ltb (m .charger .wake .age) 175
 

@@ -56,9 +56,9 @@ pub struct Wake {
 pub struct Charger {
     pub current: Request,
     pub voltage: Request,
+    pub wake: Wake,
     pub hold: bool,
     pub inhibit: bool,
-    pub wake: Wake,
 }
 
 // The four nibbles SMB, POWER_BY, CHARGE and USE_NEXT: each 0 or the bit of one bay.
@@ -69,14 +69,14 @@ pub struct Selector {
     pub next: u16,
 }
 
-// A shelf at one moment. AC and the notice stand behind the setup, where they fill the padding before the bays.
+// A shelf at one moment. The small registers stand together and the bays behind them: in this order a step takes the fewest instructions.
 pub struct Machine {
     pub setup: Setup,
+    pub selector: Selector,
+    pub charger: Charger,
     pub ac: bool,
     pub notice: bool,
     pub bays: [Bay; 4],
-    pub charger: Charger,
-    pub selector: Selector,
 }
 
 pub enum Event {

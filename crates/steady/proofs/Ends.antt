@@ -17,7 +17,7 @@ use Rattle.model.proofs.Bools.{and-l, and-r}
 use Rattle.steady.specs.Following.{isTick, unsettles, alike, doneBy, quietBy, shown, shownBy, followSpec}
 
 -- a tick of a machine that has settled
-pub ticks : (m : Machine) (e : Event) (steady : Bool) (n : Machine) (q : Bool) → (steady && isTick e) ≡ true → n ≡ act m Tick → q ≡ alike (m .charger) (n .charger)
+pub ticks : (m : Machine) (e : Event) (steady : Bool) (n : Machine) (q : Bool) → (steady && isTick e) ≡ true → n ≡ act m Tick → q ≡ alike (m .setup) (m .charger) (n .charger)
     → shown (record { answer = Done; machine = n; steady = true; quiet = q }) ≡ followSpec m e steady
 unfolding shown followSpec shownBy doneBy quietBy meantBy
 ticks m (HostWrite a c w) steady n q h p k = absurd (false≢true (and-r steady false h))
@@ -32,7 +32,7 @@ ticks m Tick steady n q h p k = rw (k, p, and-l steady true h)
 
 module _ (m : Machine) (e : Event) (steady : Bool) (a : Action) (t : Stepped) (u : Bool) (d : a ≡ decided m e) (p : told t ≡ meantBy m a) (w : u ≡ unsettles a) where
   -- an action that cannot unsettle it
-  pub keeps : (steady && not u) ≡ true → (q : Bool) → q ≡ alike (m .charger) (t .machine .charger)
+  pub keeps : (steady && not u) ≡ true → (q : Bool) → q ≡ alike (m .setup) (m .charger) (t .machine .charger)
       → shown (record { answer = t .answer; machine = t .machine; steady = true; quiet = q }) ≡ followSpec m e steady
   unfolding shown followSpec shownBy doneBy quietBy told
   keeps h q k =

@@ -80,6 +80,6 @@ quiet-keeps-the-output m e steady h q = go (unsettles (decided m e)) refl (and-r
     f : t ≡ stepSpec m e
     f = follows-the-step m e steady h
 
-    go : (u : Bool) → unsettles a ≡ u → cond u (not (accepts (t .answer))) (alike (m .charger) (t .machine .charger)) ≡ true → output (t .machine) ≡ output m
+    go : (u : Bool) → unsettles a ≡ u → cond u (not (accepts (t .answer))) (alike (m .setup) (m .charger) (t .machine .charger)) ≡ true → output (t .machine) ≡ output m
     go true u k = ap output (ap (λ (x : Told). x .machine) f ∙ refused-stays m e (ap (λ (x : Told). accepts (x .answer)) (sym f) ∙ not-true _ k))
     go false u k = rw (untouched m a steady (and-l steady (quietBy m a t) q) u) (output-alone m (meantBy m a .machine) (alone m a u) (rw (untouched m a steady (and-l steady (quietBy m a t) q) u) at k))

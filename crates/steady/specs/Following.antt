@@ -1,6 +1,8 @@
 -- An event on a machine that is held from event to event: what it comes to, and what is known of the machine after it.
 use mathlib.Core.Bool.{Bool, true, false, not, _&&_, _||_}
 use lib.Dec.{ltb, eqb}
+use Rattle.model.specs.declared.Setup.{Setup}
+use Rattle.model.specs.declared.Wake.{Wake}
 use Rattle.model.specs.declared.Charger.{Charger}
 use Rattle.model.specs.declared.Machine.{Machine}
 use Rattle.model.specs.declared.Event.{Event}
@@ -51,15 +53,18 @@ unsettles (Refuse why) = false
 unfoldable pub same : Bool → Bool → Bool
 same a b = if a then b else not b
 
--- two chargers are the same to the output: requests, hold and inhibit state, whether wake-up is spent and whether it is over
-unfoldable pub alike : Charger → Charger → Bool
-alike a b =
+-- so is wake-up to the output: it is switched off, or as much spent and as much over
+unfoldable pub sameWake : Setup → Wake → Wake → Bool
+sameWake s a b = eqb (s .wake .milliamps) 0 || same (a .spent) (b .spent) && same (ltb (a .age) 175) (ltb (b .age) 175)
+
+-- two chargers are the same to the output: requests, hold and inhibit state, wake-up
+unfoldable pub alike : Setup → Charger → Charger → Bool
+alike s a b =
     eqb (a .current .word) (b .current .word)
     && eqb (a .voltage .word) (b .voltage .word)
     && same (a .hold) (b .hold)
     && same (a .inhibit) (b .inhibit)
-    && same (a .wake .spent) (b .wake .spent)
-    && same (ltb (a .wake .age) 175) (ltb (b .wake .age) 175)
+    && sameWake s (a .wake) (b .wake)
 
 -- an action done: a machine that has settled settles anew only where the action can unsettle it
 unfoldable pub doneBy : Machine → Action → Bool → Told
@@ -68,7 +73,7 @@ doneBy m a steady = if steady && not (unsettles a) then meantBy m a else finishe
 -- enough for the output to be the one before: the action touches the charger and the notice alone, and nothing of the charger that the
 -- output shows; or it is refused
 unfoldable pub quietBy : Machine → Action → Told → Bool
-quietBy m a t = if unsettles a then not (accepts (t .answer)) else alike (m .charger) (t .machine .charger)
+quietBy m a t = if unsettles a then not (accepts (t .answer)) else alike (m .setup) (m .charger) (t .machine .charger)
 
 -- what an event came to: answer and machine, whether the machine is known to have settled, and its output to be the one before
 pub record Shown : Type 0 where

@@ -6,6 +6,7 @@ use model::Answer;
 use model::Charger;
 use model::Event;
 use model::Machine;
+use model::Setup;
 ghost use mathlib.Core.Path.{_≡_};
 ghost use mathlib.Core.Bool.{_&&_};
 ghost use Rattle.steady.specs.Following as following;
@@ -29,7 +30,7 @@ pub fn follow(m: Machine, e: Event, steady: bool) -> Followed
             answer: Answer::Done,
             machine,
             steady: true,
-            quiet: is_alike(m.charger, machine.charger),
+            quiet: is_alike(m.setup, m.charger, machine.charger),
         };
     }
     let action = actions::decide(m, e);
@@ -41,7 +42,7 @@ pub fn follow(m: Machine, e: Event, steady: bool) -> Followed
             answer,
             machine,
             steady: true,
-            quiet: is_alike(m.charger, machine.charger),
+            quiet: is_alike(m.setup, m.charger, machine.charger),
         };
     }
     let settled = actions::finish(done);
@@ -116,15 +117,16 @@ fn unsettles(action: Action) -> bool
     }
 }
 
-// Whether two chargers are the same to the output.
-fn is_alike(a: Charger, b: Charger) -> bool
-    ensures { λ r. ⌜ r ≡ following.alike a b ⌝ }
+// Whether two chargers are the same to the output. Of wake-up nothing shows where it is switched off.
+fn is_alike(s: Setup, a: Charger, b: Charger) -> bool
+    ensures { λ r. ⌜ r ≡ following.alike s a b ⌝ }
 {
     let is_on = b.wake.age < 175;
     (a.current.word == b.current.word)
         & (a.voltage.word == b.voltage.word)
         & words::choose_bool(a.hold, b.hold, !b.hold)
         & words::choose_bool(a.inhibit, b.inhibit, !b.inhibit)
-        & words::choose_bool(a.wake.spent, b.wake.spent, !b.wake.spent)
-        & words::choose_bool(a.wake.age < 175, is_on, !is_on)
+        & ((s.wake.milliamps == 0)
+            | (words::choose_bool(a.wake.spent, b.wake.spent, !b.wake.spent)
+                & words::choose_bool(a.wake.age < 175, is_on, !is_on)))
 }
