@@ -139,12 +139,13 @@ fn take_alarm(c: Charger, word: u16) -> Charger
     ensures { λ r. ⌜ r ≡ alarmSet c word ⌝ }
 {
     let alarm = words::is_alarm(word);
+    let wake = c.wake;
     Charger {
         current: remark(alarm, c.current),
         voltage: remark(alarm, c.voltage),
         hold: alarm,
         inhibit: c.inhibit,
-        wake: spend_if(false, c.wake),
+        wake: wake,
     }
 }
 

@@ -32,11 +32,19 @@ wakeTable =
     ∷ record { events = flat 10000 ++ replicate 175 Tick; look = current; value = 0 }
     ∷ []
 
--- the machine after the events, but 174 ticks later
+-- the machine after the events, with a wake age of 174
 abbrev pub wakeAged : List Event → Machine
 wakeAged es =
     let m = run wakeSetup es in
-    withCharger m (record { current = m .charger .current; voltage = m .charger .voltage; hold = m .charger .hold; inhibit = m .charger .inhibit; wake = record { age = 174; spent = m .charger .wake .spent } })
+    let c = m .charger in
+    withCharger m
+    (record {
+      current = c .current;
+      voltage = c .voltage;
+      hold = c .hold;
+      inhibit = c .inhibit;
+      wake = record { age = 174; spent = c .wake .spent };
+    })
 
 -- from `wakeAged (flat 10000)` on: what starts it anew
 unfoldable pub wakeTimers : List Case
