@@ -1,5 +1,5 @@
 #!/usr/bin/env python3
-"""Draws a log as one SVG picture: ./plot LOG [BAYS LARGEST_MA SAFE_MA LARGEST_MV SAFE_MV LOW_MV RESTART_MV] >picture.svg
+"""Draws a log as one SVG picture: ./plot LOG [BAYS LARGEST_MA SAFE_MA LARGEST_MV SAFE_MV LOW_MV RESTART_MV WAKE_MA WAKE_MV] >picture.svg
 
 LOG and the setup behind it are those of ./run: a text, a log in bytes, or - for standard input. Without a LOG it is the first example.
 

@@ -69,7 +69,7 @@ pub struct Selector {
     pub next: u16,
 }
 
-// A shelf at one moment. The small registers stand together and the bays behind them: in this order a step takes the fewest instructions.
+// A shelf at one moment. The order is one that costs few instructions, in a step and in a listing.
 pub struct Machine {
     pub setup: Setup,
     pub selector: Selector,
