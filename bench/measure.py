@@ -115,13 +115,26 @@ def size_of_step(objects):
     prefix = '' if IS_X86 else 'x86_64-linux-gnu-'
     if shutil.which(prefix + 'objdump') is None:
         return [['a step of ours: not measured without the Debian package binutils', '-']]
-    words = [prefix + 'objdump', '-h', '-d', '--no-show-raw-insn', '-M', 'intel', '--section=.text.shelf::step', str(objects / 'vectors.o')]
+    sizes = {}
+    stack = deepest(prefix + 'objdump', objects / 'vectors.o', 'shelf::step', sizes)
+    if stack is None:
+        return [['a step of ours: not there as a function that calls our own alone', '-']]
+    what = 'machine code of one step of ours' + (', with what it calls: ' + ', '.join(sorted(set(sizes) - {'shelf::step'})) if len(sizes) > 1 else '')
+    return [[what, sum(sizes.values())], ['its stack: return address, saved registers and what it keeps', stack]]
+
+
+def deepest(objdump, module, name, sizes):
+    """The stack of a function of ours with the deepest of those that it calls, or None; `sizes` gets the bytes of each one's code."""
+    words = [objdump, '-h', '-d', '-r', '--no-show-raw-insn', '-M', 'intel', '--section=.text.' + name, str(module)]
     code = subprocess.run(words, stdout=subprocess.PIPE, stderr=subprocess.DEVNULL, text=True).stdout
-    size = re.search(r'\.text\.shelf::step +([0-9a-f]+)', code)
-    frame = re.search(r'<shelf::step>:\n((?:.*\tpush .*\n)*).*\tsub +rsp,0x([0-9a-f]+)', code)
-    if size is None or frame is None or re.search(r'\tcall ', code):
-        return [['a step of ours: not there as one function', '-']]
-    saved = frame.group(1).count('push') + 1
+    size = re.search(r'\.text\.%s +([0-9a-f]+)' % re.escape(name), code)
+    called = re.findall(r'\tcall .*\n.*R_X86_64_PLT32\s+\.text\.(\S+)-0x4$', code, re.MULTILINE)
+    if size is None or len(called) != len(re.findall(r'\tcall ', code)):
+        return None
+    sizes[name] = int(size.group(1), 16)
+    pushes, kept = re.search(r'<%s>:\n((?:.*\tpush .*\n)*)(?:.*\tsub +rsp,0x([0-9a-f]+))?' % re.escape(name), code).groups()
     below = max([int(n, 16) for n in re.findall(r'\[rsp-0x([0-9a-f]+)\]', code)], default=0)
-    return [['machine code of one step of ours', int(size.group(1), 16)],
-            ['its stack: return address, saved registers and what it keeps', 8 * saved + int(frame.group(2), 16) + below]]
+    callees = [deepest(objdump, module, other, sizes) for other in sorted(set(called))]
+    if None in callees:
+        return None
+    return 8 * (pushes.count('push') + 1) + int(kept or '0', 16) + max([below] + callees)
