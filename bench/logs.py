@@ -178,6 +178,17 @@ def day(r):
             yield from records
 
 
+# Readings on both sides of each edge of the safety ranges, those of a fixed resistor under 500.
+EDGES = (0, 1, 499, 500, 2999, 3000, 30000, 30001, 100000, 100001)
+# All of them in turn, a plain one last, each with the status and the state that it gives.
+SWEEP = [record for value in (*EDGES, 10000) for record in (ohms(0, value), host_read(CHARGER, STATUS), host_read(SELECTOR, STATE))]
+
+
+def some_ohms(r):
+    """A reading, half of the time a plain one."""
+    return r.choice((10000, r.choice(EDGES)))
+
+
 def some_event(r):
     """Any event, with values from both sides of the edges."""
     bay = r.choice((0, 0, 0, 1, 1, 2, 3, 4, 255))
@@ -193,21 +204,21 @@ def some_event(r):
         lambda: host_write(SELECTOR, PRESETS, r.choice((0, 1, 2, 4, 8, 3)) << 4 | r.choice((15, 15, 3, 1, 0))),
         lambda: host_read(r.choice((CHARGER, SELECTOR)), r.choice((0x11, 0x13, 0x01, 0x02, 0x04, 0x05))),
         lambda: insertion(bay), lambda: insertion(bay), lambda: removal(bay),
-        lambda: ohms(bay, r.choice((10000, 10000, 499, 500, 2999, 3000, 30000, 30001, 100000, 100001))),
+        lambda: ohms(bay, some_ohms(r)),
         lambda: terminal(bay, r.choice((0, 8999, 9000, 10499, 10500, 65535))),
         lambda: ac(r.choice((1, 1, 0))),
     ))()
 
 
 # What ends wake-up, stops it for a while, begins it anew or lets it go on.
-AROUND_WAKING = ([connect(0)], [ac(1)], [ac(0), *[tick()] * 60, ac(1)], [ac(0), host_write(CHARGER, VOLTAGE, 500), ac(1)],
+AROUND_WAKING = (SWEEP, [connect(0)], [ac(1)], [ac(0), *[tick()] * 60, ac(1)], [ac(0), host_write(CHARGER, VOLTAGE, 500), ac(1)],
                  [bay_word(0, CURRENT, 0)], [bay_word(0, VOLTAGE, 0)], [host_write(CHARGER, ALARM, 0x4000), host_write(CHARGER, ALARM, 0)],
                  [host_write(CHARGER, MODE, 1), host_write(CHARGER, MODE, 0)], *([host_write(CHARGER, MODE, word)] for word in (4, 8, 12)))
 
 
 def some_silence(r):
     """A pack that is put in and connected, and is too flat to ask."""
-    yield from [host_write(CHARGER, MODE, 4), ac(1), removal(0), insertion(0), ohms(0, 10000), connect(0)]
+    yield from [host_write(CHARGER, MODE, 4), ac(1), removal(0), insertion(0), ohms(0, some_ohms(r)), connect(0)]
     for _ in range(r.randint(1, 6)):
         yield from [tick()] * r.choice((1, 1, 1, 115, 174, 175))
         yield host_read(SELECTOR, STATE)
@@ -219,7 +230,7 @@ def some_events(r):
     while True:
         start = r.randrange(4)
         if start == 0:
-            yield from [ac(1), insertion(0), ohms(0, 10000), connect(0), *pair(0, 1500, 16800)]
+            yield from [ac(1), insertion(0), ohms(0, some_ohms(r)), connect(0), *pair(0, 1500, 16800), *r.choice(([], SWEEP))]
         elif start == 1:
             yield from some_silence(r)
         for _ in range(r.randint(0, 25)):

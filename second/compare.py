@@ -1,7 +1,8 @@
 """Compares the programs with the second reading on random logs: python3 second/compare.py [COUNT [SEED]]
 
 Half of the logs are good, the others damaged or cut off; half run under random setups, some of which are refused. Many let a connected
-pack be silent for a while, so that the wake pair flows.
+pack be silent for a while, so that the wake pair flows. About half of the readings are not plain, most of these at an edge of under range
+and hot, with requests and without.
 """
 import pathlib
 import random
@@ -11,11 +12,9 @@ import tempfile
 
 from listing import listing, steps
 from log import record_of
-from machine import PROGRAM_SETUP, Refused, power_on, waking
+from machine import PROGRAM_SETUP, UR, Refused, charger_status, power_on, requested, waking
 
 ROOT = pathlib.Path(__file__).resolve().parent.parent
-CONNECTED = [('a', [1]), ('i', [0]), ('o', [0, 10000]), ('w', [0x14, 0x01, 0xFF1F])]
-START = CONNECTED + [('b', [0, 0x15, 16800]), ('b', [0, 0x14, 1500])]
 
 
 def some_setup(r):
@@ -33,6 +32,21 @@ def some_setup(r):
     return tuple(setup)
 
 
+def some_ohms(r):
+    return r.choice((10000, r.choice((0, 1, 300, 499, 500, 2999, 3000, 30001, 100001))))
+
+
+def connected(r):
+    """A pack at bay A is connected, read or new."""
+    read, new = [('i', [0]), ('o', [0, some_ohms(r)])], [('p', [0]), ('i', [0])]
+    return [('a', [1]), *r.choice((read, read, read, new)), ('w', [0x14, 0x01, 0xFF1F])]
+
+
+def start(r):
+    """The same, and it asks."""
+    return connected(r) + [('b', [0, 0x15, 16800]), ('b', [0, 0x14, 1500])]
+
+
 def some_event(r):
     bay = r.choice((0, 0, 0, 1, 1, 2, 3, 4, 255))
     word = r.choice((0, 1, 500, 1500, 2999, 3001, 16800, 18001, 65534, 65535))
@@ -47,7 +61,7 @@ def some_event(r):
         lambda: ('w', [0x14, 0x02, r.choice((0, 1, 2, 4, 8, 3)) << 4 | r.choice((15, 15, 3, 1, 0))]),
         lambda: ('r', [r.choice((0x12, 0x14)), r.choice((0x11, 0x13, 0x01, 0x02, 0x04, 0x05))]),
         lambda: ('i', [bay]), lambda: ('i', [bay]), lambda: ('p', [bay]),
-        lambda: ('o', [bay, r.choice((10000, 10000, 499, 500, 2999, 3000, 30001, 100001))]),
+        lambda: ('o', [bay, some_ohms(r)]),
         lambda: ('v', [bay, r.choice((0, 8999, 9000, 10499, 10500, 65535))]),
         lambda: ('a', [r.choice((1, 1, 0))]),
     ))()
@@ -59,7 +73,7 @@ def silent_event(r):
         lambda: ('a', [r.choice((0, 1, 1))]),
         lambda: ('p', [0]),
         lambda: ('i', [r.choice((0, 0, 1))]),
-        lambda: ('o', [0, r.choice((10000, 10000, 10000, 499, 2999, 40000, 100001))]),
+        lambda: ('o', [0, some_ohms(r)]),
         lambda: ('w', [0x12, 0x16, r.choice((0, 0, 0x4000))]),
         lambda: ('w', [0x12, 0x12, r.choice((0, 0, 1, 4, 4, 5, 8, 12))]),
         lambda: ('w', [0x14, 0x01, r.choice((0xFF1F, 0xFF1F, 0xFF2F, 0xFF0F))]),
@@ -71,17 +85,17 @@ def silent_event(r):
 
 def silence(r):
     """A pack at bay A is connected and does not speak."""
-    events = list(CONNECTED)
+    events = connected(r)
     for _ in range(r.randint(1, 5)):
         events += [('t', [])] * r.choice((0, 0, 3, 3, 60, 174, 175)) + [silent_event(r) for _ in range(r.randint(0, 2))]
-        events += r.choice(([], [('a', [1]), ('i', [0]), ('o', [0, 10000])]))
+        events += r.choice(([], [('a', [1]), ('i', [0]), ('o', [0, some_ohms(r)])]))
     return events
 
 
 def some_log(r):
     events = []
     for _ in range(r.randint(0, 12)):
-        events += r.choice((lambda: [], lambda: START, lambda: START, lambda: silence(r), lambda: silence(r)))()
+        events += r.choice((lambda: [], lambda: start(r), lambda: start(r), lambda: silence(r), lambda: silence(r)))()
         events += [some_event(r) for _ in range(r.randint(0, 25))] + [('t', [])] * r.choice((0, 0, 3, 174, 175))
     log = bytearray(b''.join(record_of(*event) for event in events))
     harm = r.choice(('none', 'none', 'byte', 'cut'))
@@ -90,21 +104,23 @@ def some_log(r):
     return bytes(log[:r.randint(0, len(log))] if harm == 'cut' else log)
 
 
-def wake_lines(setup, log):
-    """How many records leave the wake pair flowing, which the listing alone does not tell."""
-    lines = 0
+def flows(setup, log):
+    """How many lines have the wake pair, and how many the requested pair under range, which the listing alone does not tell."""
+    woken = under = 0
+    answer, machine = power_on(setup)
     try:
-        for _, machine in steps(power_on(setup)[1], log):
-            lines += waking(machine)
+        for _, machine in steps(machine, log if answer == 'ok' else b''):
+            woken += waking(machine)
+            under += requested(machine) and charger_status(machine) & UR != 0
     except Refused:
         pass
-    return lines
+    return woken, under
 
 
 def main():
     count, seed = (int(n) for n in (sys.argv[1:] + ['200', '1'][len(sys.argv) - 1:]))
     r = random.Random(seed)
-    lines = charging = woken = 0
+    lines = charging = woken = under = 0
     with tempfile.NamedTemporaryFile(suffix='.log') as file:
         for i in range(count):
             setup, log = r.choice((PROGRAM_SETUP, some_setup(r))), some_log(r)
@@ -119,9 +135,11 @@ def main():
                 sys.exit('log %d of seed %d differs under %s: it is kept as differs.log' % (i, seed, ' '.join(map(str, setup))))
             lines += ours.count('\n')
             charging += sum(line.split()[-3:-1] != ['0', '0'] for line in ours.splitlines() if line[0].isdigit())
-            woken += wake_lines(setup, log)
-    print('%d logs, %d lines, %d of them with the output on, %d of these with the wake pair: no difference'
-          % (count, lines, charging, woken))
+            wakes, fixed = flows(setup, log)
+            woken += wakes
+            under += fixed
+    print('%d logs, %d lines, %d of them with the output on, %d of these with the wake pair, %d under range: no difference'
+          % (count, lines, charging, woken, under))
 
 
 if __name__ == '__main__':

@@ -1,4 +1,4 @@
-"""A second reading of document 01 and of request (i) of document 02: the machine, and what can be seen of it.
+"""A second reading of document 01 and of requests (i) and (ii) of document 02: the machine, and what can be seen of it.
 
 Written from the paper and our readings of it, by somebody who had not seen the code.
 """
@@ -124,6 +124,8 @@ def choose(m, but=0):
 
 # signal classes, as status bits
 OR, COLD, HOT, UR = 1 << 8, 1 << 9, 1 << 10, 1 << 11
+WAKES = (0, COLD)
+CHARGES = (0, COLD, HOT | UR)           # a pack with a fixed resistor reads under range, and charges once it asks
 
 
 def signal(ohms):
@@ -142,19 +144,19 @@ def limited(word, largest, safe):
     return safe if word == 65535 else min(word, largest)
 
 
-def may_flow(m):
-    """Facts (a) to (d) and (h), which both pairs need."""
+def may_flow(m, signals):
+    """Facts (a) to (d) and (h), which both pairs need; each has its own signals for (c)."""
     return (m.ac and present_at(m, m.charge)
-            and signal(bay_of(m, m.charge).ohms) in (0, COLD)
+            and signal(bay_of(m, m.charge).ohms) in signals
             and not m.inhibit and not m.hold)
 
 
 def requested(m):
-    return may_flow(m) and m.current.word != 0 and m.voltage.word != 0
+    return may_flow(m, CHARGES) and m.current.word != 0 and m.voltage.word != 0
 
 
 def waking(m):
-    return may_flow(m) and not m.spent and m.wake_age < 175 and m.setup.wake_ma != 0
+    return may_flow(m, WAKES) and not m.spent and m.wake_age < 175 and m.setup.wake_ma != 0
 
 
 def output(m):

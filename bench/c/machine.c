@@ -85,10 +85,16 @@ static uint16_t limited(uint16_t word, const struct limit *l)
     return word < l->largest ? word : l->largest;
 }
 
-/* Whether the safety signal allows charging: plain or cold. */
-static bool allows_charging(const struct bay *bay)
+/* Whether the safety signal allows wake-up: plain or cold. */
+static bool allows_waking(const struct bay *bay)
 {
     return bay->was_read && 3000 <= bay->ohms && bay->ohms <= 100000;
+}
+
+/* Whether it allows charge on request: under range too, since lithium packs carry a fixed resistor of a few hundred ohms. */
+static bool allows_request(const struct bay *bay)
+{
+    return allows_waking(bay) || (bay->was_read && bay->ohms < 500);
 }
 
 /* Whether wake-up is on and has not ended, by the time or by a word. */
@@ -101,10 +107,13 @@ static bool is_waking(const struct machine *m)
 static inline struct output output_of(const struct machine *m)
 {
     struct output none = {0, 0};
-    if (!m->ac || m->inhibit || m->hold || !is_present(m, m->charge) || !allows_charging(bay_named(m, m->charge)))
+    if (!m->ac || m->inhibit || m->hold || !is_present(m, m->charge))
         return none;
+    const struct bay *bay = bay_named(m, m->charge);
     if (m->current.word == 0 || m->voltage.word == 0)
-        return is_waking(m) ? m->setup.wake : none;
+        return is_waking(m) && allows_waking(bay) ? m->setup.wake : none;
+    if (!allows_request(bay))
+        return none;
     struct output both = {limited(m->current.word, &m->setup.current), limited(m->voltage.word, &m->setup.voltage)};
     return both;
 }

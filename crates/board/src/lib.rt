@@ -4,7 +4,8 @@ use model::Limit;
 use model::Reading;
 ghost use mathlib.Core.Path.{_≡_};
 ghost use Prim.Native.Nat.{_≤_};
-ghost use Rattle.model.specs.Board.{limited, classOf, classRead, allowed, classBits};
+ghost use Rattle.model.specs.If.{if_then_else_};
+ghost use Rattle.model.specs.Board.{limited, classOf, classRead, allowed, allowedToWake, classBits};
 
 // The limit rule: 65535 gives the safe value, any other request is cut at the largest.
 pub fn limit(l: Limit, request: u16) -> u16
@@ -42,12 +43,12 @@ pub fn class_read(reading: Reading) -> Class
     }
 }
 
-// Whether a class allows charging.
-pub fn is_allowed(class: Class) -> bool
-    ensures { λ r. ⌜ r ≡ allowed class ⌝ }
+// Whether a class allows requested charge or, to wake a pack, wake-up.
+pub fn is_allowed(wake: bool, class: Class) -> bool
+    ensures { λ r. ⌜ r ≡ (if wake then allowedToWake class else allowed class) ⌝ }
 {
     match class {
-        Class::Under => false,
+        Class::Under => !wake,
         Class::Hot => false,
         Class::Plain => true,
         Class::Cold => true,

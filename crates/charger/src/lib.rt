@@ -10,6 +10,8 @@ ghost use mathlib.Core.Path.{_≡_};
 ghost use Prim.Native.Nat.{_≤_};
 ghost use Rattle.model.specs.declared.Event.the-variants as event;
 ghost use Rattle.model.specs.ChargerRules as rules;
+ghost use Rattle.model.specs.If.{if_then_else_};
+ghost use Rattle.model.specs.Board.{allows, allowsToWake};
 ghost use Rattle.model.specs.Machines.{act};
 ghost use Rattle.model.specs.Reads.{ready, charging, waking, output, aboveLargest, signalBits, statusWord};
 ghost use Rattle.charger.specs.ByEvent.{droppedIf, begunIf, spentIf, freshIf, arrivedIf, justAsked, currentSet, voltageSet, remarked, alarmSet, aged, ticked, zeroed, modeSet};
@@ -246,32 +248,32 @@ pub fn tick(m: Machine) -> Machine
     machine::with_charger(m, age_all(m.charger))
 }
 
-// AC and the CHARGE bay are present, its signal allows charging, no inhibit, no hold.
-fn is_ready(m: Machine) -> bool
-    ensures { λ r. ⌜ r ≡ ready m ⌝ }
+// AC and the CHARGE bay are present, its signal allows requested charge or, to wake a pack, wake-up; no inhibit, no hold.
+fn is_ready(wake: bool, m: Machine) -> bool
+    ensures { λ r. ⌜ r ≡ ready (λ reading. if wake then allowsToWake reading else allows reading) m ⌝ }
 {
     let bays = m.bays;
     let bay = machine::named_bay(bays, m.selector.charge);
     let reading = bay.reading;
-    m.ac
-        & bay.present
-        & board::is_allowed(board::class_read(reading))
-        & !m.charger.inhibit
-        & !m.charger.hold
+    let class = board::class_read(reading);
+    m.ac & bay.present & board::is_allowed(wake, class) & !m.charger.inhibit & !m.charger.hold
 }
 
-// Ready, and both requests are there.
+// Ready for requested charge, and both requests are there.
 fn is_charging(m: Machine) -> bool
     ensures { λ r. ⌜ r ≡ charging m ⌝ }
 {
-    is_ready(m) & (m.charger.current.word != 0) & (m.charger.voltage.word != 0)
+    is_ready(false, m) & (m.charger.current.word != 0) & (m.charger.voltage.word != 0)
 }
 
-// Ready, wake-up is switched on and not spent, and its 175th tick is still to come.
+// Ready for wake-up, which is switched on and not spent, and its 175th tick is still to come.
 fn is_waking(m: Machine) -> bool
     ensures { λ r. ⌜ r ≡ waking m ⌝ }
 {
-    is_ready(m) & (m.setup.wake.milliamps != 0) & !m.charger.wake.spent & (m.charger.wake.age < 175)
+    is_ready(true, m)
+        & (m.setup.wake.milliamps != 0)
+        & !m.charger.wake.spent
+        & (m.charger.wake.age < 175)
 }
 
 // The charge output: both requests cut to the limits, the wake pair, or 0 mA and 0 mV.

@@ -8,9 +8,9 @@ use native.Mathlib.Omega.{arith}
 use Rattle.model.specs.declared.Setup.{Setup}
 use Rattle.model.specs.declared.Bay.{Bay}
 use Rattle.model.specs.declared.Event.{Event}
+use Rattle.model.specs.declared.Reading.{Reading}
 use Rattle.model.specs.declared.Machine.{Machine}
 use Rattle.model.specs.Words.{named, bayNumber}
-use Rattle.model.specs.Board.{allows}
 use Rattle.model.specs.Events.{presetsWord, insertion, removal, signal, terminal, is, isAt, atBay, wordOf, bayOf}
 use Rattle.model.specs.Bays.{emptyBay, bayAt, bayNamed, presentAfter, readingAfter, bayAfter, okWritten, fourBays, allOkWritten, baysAfter}
 use Rattle.model.specs.Machines.{powerOn}
@@ -102,15 +102,15 @@ present-at bays n h a = go (named n)
     go true = a (bayNumber n) (number-small n) .present-is
     go false = refl
 
--- the signal of the bay that a nibble names, where that bay holds a pack
-pub signal-at : (bays : List Bay) (n : ℕ) (h : Past) (first : Bool) → BaysAgree bays h →
-    (first && packAt n h && allows (bayNamed bays n .reading)) ≡ (first && packAt n h && allows (reading (bayNumber n) h))
+-- what the signal of the bay that a nibble names allows, where that bay holds a pack
+pub signal-at : (allowing : Reading → Bool) (bays : List Bay) (n : ℕ) (h : Past) (first : Bool) → BaysAgree bays h →
+    (first && packAt n h && allowing (bayNamed bays n .reading)) ≡ (first && packAt n h && allowing (reading (bayNumber n) h))
 unfolding bayNamed packAt
-signal-at bays n h first a = go (named n)
+signal-at allowing bays n h first a = go (named n)
   where
     go : (t : Bool) →
-        (first && (t && holdsPack (bayNumber n) h) && allows (cond t (bayAt bays (bayNumber n)) emptyBay .reading))
-        ≡ (first && (t && holdsPack (bayNumber n) h) && allows (reading (bayNumber n) h))
+        (first && (t && holdsPack (bayNumber n) h) && allowing (cond t (bayAt bays (bayNumber n)) emptyBay .reading))
+        ≡ (first && (t && holdsPack (bayNumber n) h) && allowing (reading (bayNumber n) h))
     go true = rw (a (bayNumber n) (number-small n) .reading-is)
     go false = simp and-false
 

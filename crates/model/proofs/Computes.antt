@@ -1,6 +1,6 @@
 -- Every rule that a run computes by, opened under one name: `unfolding computes` opens what the lines below name.
 use Rattle.model.specs.Words.{bit, nibble, named, bayNumber, names, alarming}
-use Rattle.model.specs.Board.{limited, classOf, allows}
+use Rattle.model.specs.Board.{limited, classOf, allows, allowsToWake}
 use Rattle.model.specs.Events.{bayWrites, hostWritesCharger, hostWritesSelector, hostReadsCharger, hostReadsSelector, byAddress, kindOf, wordOf, bayOf, fromBay, kindNumber, is, isAt, atBay, swaps, swapsAt, saysPresent, resets, zeroes, asks, alarms, connects}
 use Rattle.model.specs.Bays.{bayAt, bayNamed, candidate, presentAfter, okAfter, lowAfter, readingAfter, bayAfter, allOkWritten, baysAfter}
 use Rattle.model.specs.SelectorRules.{acAfter, acArrives, acGoes, written, smbAfter, powerAfter, dropsCharge, chargeAfter, nextAfter, noticeAfter}
@@ -17,7 +17,7 @@ unfolding bit nibble named bayNumber names alarming
 words = tt
 
 board : Unit {0}
-unfolding limited classOf allows
+unfolding limited classOf allows allowsToWake
 board = tt
 
 events : Unit {0}

@@ -9,7 +9,7 @@ use native.Mathlib.Omega.{arith}
 use Rattle.model.specs.declared.Setup.{Setup}
 use Rattle.model.specs.declared.Event.{Event}
 use Rattle.model.specs.declared.Machine.{Machine}
-use Rattle.model.specs.Board.{noOutput}
+use Rattle.model.specs.Board.{noOutput, allows, allowsToWake}
 use Rattle.model.specs.Reads.{ready, charging, waking, output}
 use Rattle.model.specs.Facts.{Past, acPresent, connected, Eight, requested, eightHold, Waking, wakeHolds, outputTold}
 use Rattle.model.specs.Promises.{OutputIsTold}
@@ -74,7 +74,7 @@ still false w = rw and-false
 charging-is : (s : Setup) (m : Machine) (h : Past) → Agrees s m h → charging m ≡ eightHold s h
 unfolding ready charging eightHold
 charging-is s m h a =
-    rw (a .ac-is, a .charge-is, present-at (m .bays) (connected h) h (a .bays-are), signal-at (m .bays) (connected h) h (acPresent h) (a .bays-are))
+    rw (a .ac-is, a .charge-is, present-at (m .bays) (connected h) h (a .bays-are), signal-at allows (m .bays) (connected h) h (acPresent h) (a .bays-are))
     (simp (a .inhibit-is, Bool·not-not, a .hold-is, a .current-is .request-is, a .voltage-is .request-is, still, and-comm, and-swap))
 
 -- an age counts no further than 175
@@ -88,7 +88,7 @@ young ticks = go (ltb ticks 175) refl
 waking-is : (s : Setup) (m : Machine) (h : Past) → Agrees s m h → waking m ≡ wakeHolds s h
 unfolding ready waking wakeHolds
 waking-is s m h a =
-    rw (a .ac-is, a .charge-is, present-at (m .bays) (connected h) h (a .bays-are), signal-at (m .bays) (connected h) h (acPresent h) (a .bays-are))
+    rw (a .ac-is, a .charge-is, present-at (m .bays) (connected h) h (a .bays-are), signal-at allowsToWake (m .bays) (connected h) h (acPresent h) (a .bays-are))
     (simp (a .inhibit-is, Bool·not-not, a .hold-is, a .setup-is, a .spent-is, a .wake-age-is, young))
 
 under : {A : Type 0} (c : Bool) (x y z : A) → (c ≡ true → x ≡ y) → cond c x z ≡ cond c y z

@@ -32,17 +32,29 @@ abbrev pub classRead : Reading → Class
 classRead Unread = Over
 classRead (Ohms ohms) = classOf ohms
 
--- charging is allowed in plain and COLD
+-- requested charge is allowed in plain and COLD, and under range, where a pack has a fixed resistor
 abbrev pub allowed : Class → Bool
-allowed Under = false
+allowed Under = true
 allowed Hot = false
 allowed Plain = true
 allowed Cold = true
 allowed Over = false
 
--- a reading allows charging
+-- wake-up is allowed in plain and COLD
+abbrev pub allowedToWake : Class → Bool
+allowedToWake Under = false
+allowedToWake Hot = false
+allowedToWake Plain = true
+allowedToWake Cold = true
+allowedToWake Over = false
+
+-- a reading allows requested charge
 unfoldable pub allows : Reading → Bool
 allows r = allowed (classRead r)
+
+-- a reading allows wake-up
+unfoldable pub allowsToWake : Reading → Bool
+allowsToWake r = allowedToWake (classRead r)
 
 -- the status bits 8 OR, 9 COLD, 10 HOT, 11 UR of a class
 abbrev pub classBits : Class → ℕ

@@ -12,7 +12,7 @@ use Rattle.model.specs.declared.Output.{Output}
 use Rattle.model.specs.If.{if_then_else_}
 use Rattle.model.specs.Numbers.{Said, done, word, refused}
 use Rattle.model.specs.Words.{bit, named, bayNumber, alarming, chargeIn, okIn}
-use Rattle.model.specs.Board.{limited, noOutput, allows}
+use Rattle.model.specs.Board.{limited, noOutput, allows, allowsToWake}
 use Rattle.model.specs.Events.{Kind, currentWord, voltageWord, alarmWord, modeWord, presetsWord, insertion, removal, signal, acEvent, tick, is, isAt, wordOf, swapsAt, saysPresent, connects, resets, zeroes, asks}
 
 -- an event and its answer
@@ -130,7 +130,7 @@ pub record Eight (s : Setup) (h : Past) : Type 0 where
   pub ac : acPresent h ≡ true
   -- (b) the latest accepted connection names a bay and that bay holds a pack
   pub pack : packAt (connected h) h ≡ true
-  -- (c) its latest reading since insertion allows charging
+  -- (c) its latest reading since insertion allows requested charge
   pub signal-allows : allows (reading (bayNumber (connected h)) h) ≡ true
   -- (d) the latest accepted ChargerMode word had bit 0 clear or bit 2 set, or there was none
   pub not-inhibited : uninhibited h ≡ true
@@ -172,10 +172,10 @@ sinceWake (e ∷ h) = if freshStart e h || acArrival e h then [] else e ∷ sinc
 
 -- the facts of the wake pair, of a setup and a past
 pub record Waking (s : Setup) (h : Past) : Type 0 where
-  -- (a) to (d) and (h), as above
+  -- (a) to (d) and (h), as above, but that the reading of (c) has to allow wake-up
   pub ac : acPresent h ≡ true
   pub pack : packAt (connected h) h ≡ true
-  pub signal-allows : allows (reading (bayNumber (connected h)) h) ≡ true
+  pub signal-allows : allowsToWake (reading (bayNumber (connected h)) h) ≡ true
   pub not-inhibited : uninhibited h ≡ true
   pub not-held : held (sinceFresh h) ≡ false
   -- the wake current is not 0, which switches it off
@@ -190,7 +190,7 @@ unfoldable pub wakeHolds : Setup → Past → Bool
 wakeHolds s h =
     acPresent h
     && packAt (connected h) h
-    && allows (reading (bayNumber (connected h)) h)
+    && allowsToWake (reading (bayNumber (connected h)) h)
     && uninhibited h
     && not (held (sinceFresh h))
     && not (eqb (s .wake .milliamps) 0)

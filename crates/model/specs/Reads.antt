@@ -5,12 +5,13 @@ use mathlib.Core.List.{List}
 use lib.Dec.{ltb, eqb}
 use Rattle.model.specs.declared.Limit.{Limit}
 use Rattle.model.specs.declared.Bay.{Bay}
+use Rattle.model.specs.declared.Reading.{Reading}
 use Rattle.model.specs.declared.Machine.{Machine}
 use Rattle.model.specs.declared.Output.{Output}
 use Rattle.model.specs.declared.Event.{Event}
 use Rattle.model.specs.If.{if_then_else_}
 use Rattle.model.specs.Words.{on, nibble, nibbles, inverted}
-use Rattle.model.specs.Board.{limited, noOutput, classRead, allows, classBits}
+use Rattle.model.specs.Board.{limited, noOutput, classRead, allows, allowsToWake, classBits}
 use Rattle.model.specs.Events.{specRead, statusRead, stateRead, presetsRead, infoRead, is}
 use Rattle.model.specs.Bays.{bayAt, bayNamed, candidate}
 
@@ -18,26 +19,26 @@ use Rattle.model.specs.Bays.{bayAt, bayNamed, candidate}
 abbrev pub chargeBay : Machine → Bay
 chargeBay m = bayNamed (m .bays) (m .selector .charge)
 
--- AC and the CHARGE bay are present, its signal allows charging, there is no inhibit or hold
-unfoldable pub ready : Machine → Bool
-ready m =
+-- AC and the CHARGE bay are present, its signal allows what is to flow, there is no inhibit or hold
+unfoldable pub ready : (Reading → Bool) → Machine → Bool
+ready allowing m =
     m .ac
     && chargeBay m .present
-    && allows (chargeBay m .reading)
+    && allowing (chargeBay m .reading)
     && not (m .charger .inhibit)
     && not (m .charger .hold)
 
--- ready, and neither request is 0
+-- ready for requested charge, and neither request is 0
 unfoldable pub charging : Machine → Bool
 charging m =
-    ready m
+    ready allows m
     && not (eqb (m .charger .current .word) 0)
     && not (eqb (m .charger .voltage .word) 0)
 
--- ready, wake-up is switched on and not spent, and its 175th tick is still to come
+-- ready for wake-up, which is switched on and not spent, and its 175th tick is still to come
 unfoldable pub waking : Machine → Bool
 waking m =
-    ready m && not (eqb (m .setup .wake .milliamps) 0)
+    ready allowsToWake m && not (eqb (m .setup .wake .milliamps) 0)
     && not (m .charger .wake .spent)
     && ltb (m .charger .wake .age) 175
 

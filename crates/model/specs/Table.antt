@@ -1,4 +1,4 @@
--- P1 to P12, whole runs of the program's setup from power-on, and the timers, from a machine that was aged: what is seen after each.
+-- P1 to P12 and two figures of request (ii), whole runs of the program's setup from power-on, and the timers, from a machine that was aged: what is seen after each.
 use Prim.Native.Nat.{ℕ}
 use mathlib.Core.Bool.{true, false}
 use mathlib.Core.List.{List, [], _∷_, _++_}
@@ -39,6 +39,9 @@ table =
     ∷ record { events = charge 10000 3001; look = current; value = 3000 }
     ∷ record { events = charge 10000 65534; look = current; value = 3000 }
     ∷ record { events = charge 10000 65535; look = current; value = 2000 }
+    -- request (ii) of document 02: ohms 499 yes, 500 no
+    ∷ record { events = charge 499 1500; look = current; value = 1500 }
+    ∷ record { events = charge 500 1500; look = current; value = 0 }
     -- P6 to P9: ohms 2999 no, 3000 yes, 100000 yes, 100001 no
     ∷ record { events = charge 2999 1500; look = current; value = 0 }
     ∷ record { events = charge 3000 1500; look = current; value = 1500 }

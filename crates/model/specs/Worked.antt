@@ -71,11 +71,11 @@ signalAtWork =
     ∷ row (BayWord 0 0x15 16800) done 0 0 1
     -- unread counts as over range
     ∷ row (HostRead 0x12 0x13) (word 0xC310) 0 0 1
-    -- HOT and UR
-    ∷ row (Signal 0 0) done 0 0 1
-    ∷ row (HostRead 0x12 0x13) (word 0xCC10) 0 0 1
-    ∷ row (Signal 0 499) done 0 0 1
-    ∷ row (HostRead 0x12 0x13) (word 0xCC10) 0 0 1
+    -- HOT and UR, and charging all the same
+    ∷ row (Signal 0 0) done 1500 16800 1
+    ∷ row (HostRead 0x12 0x13) (word 0xCC10) 1500 16800 1
+    ∷ row (Signal 0 499) done 1500 16800 1
+    ∷ row (HostRead 0x12 0x13) (word 0xCC10) 1500 16800 1
     -- HOT
     ∷ row (Signal 0 500) done 0 0 1
     ∷ row (HostRead 0x12 0x13) (word 0xC410) 0 0 1

@@ -10,6 +10,7 @@ fn main() {
     show(b"swap.log", setup);
     show(b"ac_lost.log", setup);
     show(b"refusals.log", setup);
+    show(b"fixed_resistor.log", setup);
     show(b"empty.log", setup);
     show(b"one_byte.log", setup);
     show(b"cut_off.log", setup);
