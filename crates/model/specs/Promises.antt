@@ -151,7 +151,7 @@ AllSettled = (s : Setup) (es : List Event) → settle (run s es) ≡ run s es
 
 -- COMPUTED
 
--- P1 to P12, one table
+-- P1 to P12, and 499 and 500 ohms, one table
 abbrev pub TableHolds : Type 0
 TableHolds = allSeen (powerOn programSetup) table ≡ allValues table
 

@@ -1,4 +1,4 @@
--- P1 to P12 and two figures of request (ii), whole runs of the program's setup from power-on, and the timers, from a machine that was aged: what is seen after each.
+-- P1 to P12, and 499 and 500 ohms, whole runs of the program's setup from power-on, and the timers, from a machine that was aged: what is seen after each.
 use Prim.Native.Nat.{ℕ}
 use mathlib.Core.Bool.{true, false}
 use mathlib.Core.List.{List, [], _∷_, _++_}
@@ -30,7 +30,7 @@ pub record Case : Type 0 where
   pub look : Look
   pub value : ℕ
 
--- P1 to P12
+-- P1 to P12, and 499 and 500 ohms in their place
 unfoldable pub table : List Case
 table =
     -- P1 to P5: requests 2999, 3000, 3001, 65534, 65535 with 3000/2000
