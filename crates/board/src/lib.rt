@@ -1,5 +1,6 @@
 // The analogue board's two rules: how a request is limited, and what a reading of the safety signal means.
 use model::Class;
+use model::Edge;
 use model::Limit;
 use model::Reading;
 ghost use mathlib.Core.Path.{_≡_};
@@ -20,17 +21,28 @@ pub fn limit(l: Limit, request: u16) -> u16
     }
 }
 
-// The class of a reading, by its range.
+// The analogue board's edges in ohms, rising, each with the class of the readings below it that reach the edge before.
+const EDGES: [Edge; 4] = [
+    Edge(500, Class::Under),
+    Edge(3000, Class::Hot),
+    Edge(30001, Class::Plain),
+    Edge(100001, Class::Cold),
+];
+
+// The class of a reading: that of the first edge it does not reach; over range if it reaches them all.
 pub fn class_of(ohms: u32) -> Class
     ensures { λ r. ⌜ r ≡ classOf ohms ⌝ }
 {
-    match ohms {
-        0..=499 => Class::Under,
-        500..=2999 => Class::Hot,
-        3000..=30000 => Class::Plain,
-        30001..=100000 => Class::Cold,
-        _ => Class::Over,
+    let mut i = 0;
+    while i < EDGES.len() {
+        let edge = EDGES[i];
+        let Edge(below, class) = edge;
+        if ohms < below {
+            return class;
+        }
+        i += 1;
     }
+    Class::Over
 }
 
 // The class of a signal that may be unread.

@@ -1,6 +1,7 @@
 -- In the order in which they build on each other.
 pub mod Bools
 pub mod Numbers
+pub mod Ladder
 pub mod Computes
 pub mod ByComputing
 pub mod Passes

@@ -1,5 +1,5 @@
 -- Every promise of `specs/Promises.antt`, proved: a line each, with the file that has the argument.
-use Rattle.model.specs.Promises.{OutputIsTold, FlowsExactly, NeverTwo, CutToTheLimits, WakePairFlows, ExactlyEight, FactsCanHold, WakingCanHold, CountedFrom, RunsOut, RunsOutWhateverComes, WakeRunsOut, RefusalChangesNothing, BadMachineFirst, PowerOnIsGood, StepsStayGood, AlwaysGood, Never15, TicksAndAcHeard, RefusalsApart, AnswersApart, StepsApart, KindsApart, SupplyKept, SettledOnce, AllSettled, TableHolds, TimersHold, EdgesHold, WakeTimersHold, WorkedRunsHold}
+use Rattle.model.specs.Promises.{OutputIsTold, FlowsExactly, NeverTwo, CutToTheLimits, WakePairFlows, ExactlyEight, FactsCanHold, WakingCanHold, CountedFrom, RunsOut, RunsOutWhateverComes, WakeRunsOut, RefusalChangesNothing, BadMachineFirst, PowerOnIsGood, StepsStayGood, AlwaysGood, Never15, TicksAndAcHeard, RefusalsApart, AnswersApart, StepsApart, KindsApart, SupplyKept, SettledOnce, AllSettled, WalkIsTheLadder, TableHolds, TimersHold, EdgesHold, WakeTimersHold, WorkedRunsHold}
 use Rattle.model.proofs.Demand3
 use Rattle.model.proofs.Exactly
 use Rattle.model.proofs.Origin
@@ -10,6 +10,7 @@ use Rattle.model.proofs.Later
 use Rattle.model.proofs.Numbers
 use Rattle.model.proofs.Candidates
 use Rattle.model.proofs.Settled
+use Rattle.model.proofs.Ladder
 use Rattle.model.proofs.ByComputing
 
 pub output-is-told : OutputIsTold
@@ -89,6 +90,9 @@ settled-once = Settled.settled-once
 
 pub all-settled : AllSettled
 all-settled = Settled.all-settled
+
+pub walk-is-the-ladder : WalkIsTheLadder
+walk-is-the-ladder = Ladder.walk-is-the-ladder
 
 pub table-holds : TableHolds
 table-holds = ByComputing.table-holds

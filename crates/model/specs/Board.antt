@@ -1,12 +1,14 @@
 -- The analogue board's two rules: how a request is limited, and what a reading of the safety signal means.
 use Prim.Native.Nat.{ℕ, min, _+_, _^_}
 use mathlib.Core.Bool.{Bool, true, false}
+use mathlib.Core.List.{List, [], _∷_}
 use lib.Dec.{ltb, eqb}
 use Rattle.model.specs.declared.Limit.{Limit}
 use Rattle.model.specs.declared.Reading.{Reading}
 use Rattle.model.specs.declared.Reading.the-variants.{Unread, Ohms}
 use Rattle.model.specs.declared.Class.{Class}
 use Rattle.model.specs.declared.Class.the-variants.{Under, Hot, Plain, Cold, Over}
+use Rattle.model.specs.declared.Edge.{Edge}
 use Rattle.model.specs.declared.Output.{Output}
 use Rattle.model.specs.If.{if_then_else_}
 
@@ -18,14 +20,24 @@ limited l request = if eqb request 65535 then l .safe else min request (l .large
 abbrev pub noOutput : Output
 noOutput = record { milliamps = 0; millivolts = 0 }
 
--- below 500 HOT and UR; 500 to 2999 HOT; 3000 to 30000 plain; 30001 to 100000 COLD; above 100000 OR and COLD
+-- the analogue board's edges in ohms, rising, each with the class of the readings below it: below 500 HOT and UR; 500 to 2999 HOT; 3000 to
+-- 30000 plain; 30001 to 100000 COLD
+abbrev pub edges : List Edge
+edges =
+    (500, Under)
+    ∷ (3000, Hot)
+    ∷ (30001, Plain)
+    ∷ (100001, Cold)
+    ∷ []
+
+-- the class of the first edge that a reading does not reach; above 100000, where it reaches them all, OR and COLD
+abbrev pub walk : List Edge → ℕ → Class
+walk [] ohms = Over
+walk (e ∷ rest) ohms = if ltb ohms (e .0) then e .1 else walk rest ohms
+
+-- the class of a reading, by a walk over the edges
 unfoldable pub classOf : ℕ → Class
-classOf ohms =
-    if ltb ohms 500 then Under
-    else if ltb ohms 3000 then Hot
-    else if ltb ohms 30001 then Plain
-    else if ltb ohms 100001 then Cold
-    else Over
+classOf ohms = walk edges ohms
 
 -- unread counts as over range
 abbrev pub classRead : Reading → Class

@@ -19,4 +19,5 @@ pub mod Table
 pub mod Worked
 pub mod WakeAtWork
 pub mod Handed
+pub mod Ladder
 pub mod Promises

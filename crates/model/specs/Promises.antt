@@ -12,7 +12,7 @@ use Rattle.model.specs.declared.Answer.{Answer}
 use Rattle.model.specs.declared.Stepped.{Stepped}
 use Rattle.model.specs.declared.Refusal.{Refusal}
 use Rattle.model.specs.Numbers.{numberOf, done, refused, said}
-use Rattle.model.specs.Board.{noOutput}
+use Rattle.model.specs.Board.{noOutput, classOf}
 use Rattle.model.specs.Events.{Kind, currentWord, voltageWord, kindNumber, is}
 use Rattle.model.specs.Bays.{bayAt, candidate}
 use Rattle.model.specs.Machines.{programSetup, fourBaySetup, powerOn}
@@ -25,6 +25,7 @@ use Rattle.model.specs.Runs.{run, past, heardFrom}
 use Rattle.model.specs.Origin.{Counted}
 use Rattle.model.specs.Table.{charge, table, aged, timers, allSeen, allValues}
 use Rattle.model.specs.Handed.{goodOnes, badOnes, allBad, everyOne}
+use Rattle.model.specs.Ladder.{ladder}
 use Rattle.model.specs.WakeAtWork.{wakeSetup, flat, dark, wakeTable, wakeAged, wakeTimers, wakeArrivals, wakeAtWork}
 use Rattle.model.specs.Worked.{Row, rerun, listing, statusWords, signalAtWork, chargerAtWork, selectorAtWork, fourBaysAtWork}
 
@@ -148,6 +149,12 @@ SettledOnce = (m : Machine) → settle (settle m) ≡ settle m
 -- every machine of a run is settled
 abbrev pub AllSettled : Type 0
 AllSettled = (s : Setup) (es : List Event) → settle (run s es) ≡ run s es
+
+-- THE OHM RANGES
+
+-- at every reading the walk over the edges gives the class that the ladder of comparisons gives
+abbrev pub WalkIsTheLadder : Type 0
+WalkIsTheLadder = (ohms : ℕ) → classOf ohms ≡ ladder ohms
 
 -- COMPUTED
 

@@ -32,6 +32,9 @@ pub enum Class {
     Over,
 }
 
+// An edge of the safety signal's ranges, in ohms, and the class of the readings below it that reach the edge before.
+pub struct Edge(pub u32, pub Class);
+
 pub struct Bay {
     pub present: bool,
     pub ok: bool,
