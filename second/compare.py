@@ -1,8 +1,8 @@
 """Compares the programs with the second reading on random logs: python3 second/compare.py [COUNT [SEED]]
 
 Half of the logs are good, the others damaged or cut off; half run under random setups, some of which are refused. Many let a connected
-pack be silent for a while, so that the wake pair flows. About half of the readings are not plain, most of these at an edge of under range
-and hot, with requests and without.
+pack be silent for a while, so that the wake pair flows. Half of the readings are at an edge of a range, on either side, or anywhere, with
+requests and without.
 """
 import pathlib
 import random
@@ -33,7 +33,8 @@ def some_setup(r):
 
 
 def some_ohms(r):
-    return r.choice((10000, r.choice((0, 1, 300, 499, 500, 2999, 3000, 30001, 100001))))
+    edges = 0, 1, 300, 499, 500, 2999, 3000, 30000, 30001, 100000, 100001, 4294967295
+    return r.choice((10000, r.choice((*edges, r.randint(0, 120000)))))
 
 
 def connected(r):

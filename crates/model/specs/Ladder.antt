@@ -1,4 +1,4 @@
--- The ohm ranges as one decision, a ladder of comparisons: the rule as it stood before its list of edges. A promise ties the two.
+-- The ohm ranges as one decision, a ladder of comparisons: the rule as it stood before its list of edges. `WalkIsTheLadder` ties the two.
 use Prim.Native.Nat.{ℕ}
 use lib.Dec.{ltb}
 use Rattle.model.specs.declared.Class.{Class}
