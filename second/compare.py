@@ -33,8 +33,8 @@ def some_setup(r):
 
 
 def some_ohms(r):
-    edges = 0, 1, 300, 499, 500, 2999, 3000, 30000, 30001, 100000, 100001, 4294967295
-    return r.choice((10000, r.choice((*edges, r.randint(0, 120000)))))
+    notable = 0, 1, 300, 499, 500, 2999, 3000, 30000, 30001, 100000, 100001, 4294967295
+    return r.choice((10000, r.choice((*notable, r.randint(0, 120000)))))
 
 
 def connected(r):

@@ -30,7 +30,7 @@ edges =
     ∷ (100001, Cold)
     ∷ []
 
--- the class of the first edge that a reading does not reach; above 100000, where it reaches them all, OR and COLD
+-- the class, .1, of the first edge, .0, that a reading does not reach; above 100000, where it reaches them all, OR and COLD
 abbrev pub walk : List Edge → ℕ → Class
 walk [] ohms = Over
 walk (e ∷ rest) ohms = if ltb ohms (e .0) then e .1 else walk rest ohms
