@@ -1,10 +1,9 @@
 -- The code's decisions: over sender, address and code, and over what is needed of a bay.
-use Rattle.std.specs.Prelude.{ℕ, ◌+◌, ◌*◌, Bool, true, false, not, ◌&&◌, eqb}
+use Rattle.std.specs.Prelude.{ℕ, ◌+◌, ◌*◌, Bool, true, false, not, ◌&&◌, eqb, if◌then◌else◌}
 use Rattle.model.specs.declared.Machine.{Machine}
 use Rattle.model.specs.declared.Event.{Event}
 use Rattle.model.specs.declared.Event.TheVariants.{HostWrite, HostRead, BayWord, Insertion, Removal, Signal, Terminal, Ac, Tick}
 use Rattle.model.specs.declared.Refusal.TheVariants.{NoSuchWord, NotChargingBay, UnsupportedBay, WrongPresence}
-use Rattle.model.specs.If.{if◌then◌else◌}
 use Rattle.model.specs.Words.{names}
 use Rattle.model.specs.Refusals.{supports}
 use Rattle.machine.specs.ByNumber.{bay_in}

@@ -1,9 +1,8 @@
 -- What an event means before the machine settles, what an action does, and how a step ends.
-use Rattle.std.specs.Prelude.{ℕ, zero, suc, Bool, true, false}
+use Rattle.std.specs.Prelude.{ℕ, zero, suc, Bool, true, false, if◌then◌else◌}
 use Rattle.model.specs.declared.Machine.{Machine}
 use Rattle.model.specs.declared.Event.{Event}
 use Rattle.model.specs.declared.Event.TheVariants.{HostWrite, Insertion, Removal, Signal, Terminal, Ac, Tick}
-use Rattle.model.specs.If.{if◌then◌else◌}
 use Rattle.model.specs.Numbers.{Said, done, word, refused, number_of}
 use Rattle.model.specs.Machines.{act, with_notice}
 use Rattle.model.specs.Settling.{settle}

@@ -1,4 +1,6 @@
 // What an event comes to: the decision that chooses an action or a refusal, and the action itself.
+#![tactic(auto)]
+
 ghost use Rattle.std.specs.Prelude.{◌≡◌};
 ghost use Rattle.model.specs.declared.Answer.TheVariants as answer;
 ghost use Rattle.model.specs.declared.Event.TheVariants as event;
@@ -10,7 +12,7 @@ ghost use Rattle.actions.specs.Decision.{key_of, chosen, sender_at, word_from_ba
 use model::{Answer, Event, Machine, Refusal, Stepped};
 
 // One action for each register and each thing that can happen, with what it needs; or the refusal.
-#[derive(Drop)]
+#[derive(Clone, Copy)]
 pub enum Action {
     SetCurrent(u16),
     SetVoltage(u16),
@@ -45,6 +47,7 @@ const OTHER_BAY: u8 = 3;
 const CHARGER: u8 = 0x12;
 
 // Sender, address and code in one number.
+#[inline(always)]
 fn key_of(sender: u8, address: u8, code: u8) -> u32
     ensures { result ≡ key_of sender address code }
 {
@@ -53,6 +56,7 @@ fn key_of(sender: u8, address: u8, code: u8) -> u32
 
 // The one decision over sender, address and code: the register's action, or refusal 3. A word that exists gets refusal 4 from
 // a bay that is not the CHARGE bay, or holds no pack.
+#[inline(always)]
 fn choose(sender: u8, address: u8, code: u8, word: u16) -> Action
     ensures { result ≡ chosen sender address code word }
 {
@@ -79,6 +83,7 @@ fn choose(sender: u8, address: u8, code: u8, word: u16) -> Action
 }
 
 // A bay as a sender: whether it is the CHARGE bay and holds a pack.
+#[inline(always)]
 fn sender_of(m: Machine, b: u8) -> u8
     ensures { result ≡ sender_at m b }
 {
@@ -91,6 +96,7 @@ fn sender_of(m: Machine, b: u8) -> u8
 }
 
 // A bay's word: 2 where the bay is not supported, then the decision.
+#[inline(always)]
 fn from_bay(m: Machine, b: u8, code: u8, word: u16) -> Action
     ensures { result ≡ word_from_bay m b code word }
 {
@@ -102,6 +108,7 @@ fn from_bay(m: Machine, b: u8, code: u8, word: u16) -> Action
 }
 
 // An action at a bay that has to hold a pack, or has to be empty: 2 where the bay is not supported, then 9.
+#[inline(always)]
 fn at_bay(m: Machine, b: u8, full: bool, then: Action) -> Action
     ensures { result ≡ action_at_bay m b full then }
 {
@@ -119,6 +126,7 @@ fn at_bay(m: Machine, b: u8, full: bool, then: Action) -> Action
 }
 
 // What an event comes to on a good machine: its action, or refusal 2, 3, 4 or 9. 5 to 8 are tried where a word of the selector is taken.
+#[inline(always)]
 pub fn decide(m: Machine, e: Event) -> Action
     ensures { result ≡ decided m e }
 {
@@ -142,6 +150,7 @@ pub fn decide(m: Machine, e: Event) -> Action
 }
 
 // Done, beside the machine.
+#[inline(always)]
 fn done(m: Machine) -> Stepped
     ensures { result ≡ record { answer = answer.Done; machine = m } }
 {
@@ -152,6 +161,7 @@ fn done(m: Machine) -> Stepped
 }
 
 // A word that was read, beside the machine.
+#[inline(always)]
 fn show(m: Machine, word: u16) -> Stepped
     ensures { result ≡ record { answer = answer.Word word; machine = m } }
 {
@@ -162,6 +172,7 @@ fn show(m: Machine, word: u16) -> Stepped
 }
 
 // A refusal leaves the machine as it stood.
+#[inline(always)]
 pub fn refuse(m: Machine, why: Refusal) -> Stepped
     ensures { result ≡ record { answer = answer.Refused why; machine = m } }
 {
@@ -172,6 +183,7 @@ pub fn refuse(m: Machine, why: Refusal) -> Stepped
 }
 
 // A SelectorState word: 5, 6, 7, 8, or its action.
+#[inline(always)]
 fn write_state(m: Machine, word: u16) -> Stepped
     ensures { told result ≡ meant m (event.HostWrite 0x14 0x01 word) }
 {
@@ -191,6 +203,7 @@ fn write_state(m: Machine, word: u16) -> Stepped
 }
 
 // A SelectorPresets word: 5, or its action.
+#[inline(always)]
 fn write_presets(m: Machine, word: u16) -> Stepped
     ensures { told result ≡ meant m (event.HostWrite 0x14 0x02 word) }
 {
@@ -202,6 +215,7 @@ fn write_presets(m: Machine, word: u16) -> Stepped
 }
 
 // The action, before the machine settles.
+#[inline(always)]
 pub fn perform(m: Machine, a: Action) -> Stepped
     ensures { told result ≡ meant_by m a }
 {
@@ -228,6 +242,7 @@ pub fn perform(m: Machine, a: Action) -> Stepped
 }
 
 // Whether an answer is no refusal.
+#[inline(always)]
 pub fn is_accepted(a: Answer) -> bool
     ensures { result ≡ accepts (said a) }
 {
@@ -239,6 +254,7 @@ pub fn is_accepted(a: Answer) -> bool
 }
 
 // An accepted event lets the machine settle; a refused one leaves it as it stood.
+#[inline(always)]
 pub fn finish(t: Stepped) -> Stepped
     ensures { told result ≡ finished (told t) }
 {

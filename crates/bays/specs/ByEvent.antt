@@ -1,10 +1,9 @@
 -- What happens at a bay, and to AC: the model's rules read by event, as proofs/ByEvent.antt shows.
-use Rattle.std.specs.Prelude.{ℕ, Bool, true, false, not, ◌&&◌, ◌||◌, List, ltb, leb, eqb}
+use Rattle.std.specs.Prelude.{ℕ, Bool, true, false, not, ◌&&◌, ◌||◌, List, ltb, leb, eqb, if◌then◌else◌}
 use Rattle.model.specs.declared.Setup.{Setup}
 use Rattle.model.specs.declared.Reading.TheVariants.{Unread, Ohms}
 use Rattle.model.specs.declared.Bay.{Bay}
 use Rattle.model.specs.declared.Machine.{Machine}
-use Rattle.model.specs.If.{if◌then◌else◌}
 use Rattle.model.specs.Words.{names}
 use Rattle.model.specs.Bays.{bay_at, four_bays}
 use Rattle.model.specs.Machines.{with_bays, with_charger, with_selector, with_ac, with_notice}

@@ -1,4 +1,6 @@
 // What happens at a bay: a pack put in or pulled, its signal, its terminal voltage. And AC coming and going.
+#![tactic(auto)]
+
 ghost use Rattle.std.specs.Prelude.{◌≡◌, cond};
 ghost use Rattle.model.specs.declared.Event.TheVariants as event;
 ghost use Rattle.model.specs.Machines.{act};
@@ -7,6 +9,7 @@ ghost use Rattle.bays.specs.ByEvent.{new_pack, with_bay, swapped, signal_read, t
 use model::{Bay, Machine, Reading, Selector, Setup};
 
 // A bay whose pack was just put in.
+#[inline(always)]
 fn new_pack() -> Bay
     ensures { result ≡ new_pack }
 {
@@ -19,6 +22,7 @@ fn new_pack() -> Bay
 }
 
 // The bays with another at number b, all as they are where there is no such bay.
+#[inline(always)]
 fn put_bay(bays: [Bay; 4], b: u8, bay: Bay) -> [Bay; 4]
     ensures { result ≡ with_bay bays b bay }
 {
@@ -30,6 +34,7 @@ fn put_bay(bays: [Bay; 4], b: u8, bay: Bay) -> [Bay; 4]
 }
 
 // A machine whose bay b now holds another pack or none.
+#[inline(always)]
 fn swap(m: Machine, b: u8, bay: Bay) -> Machine
     ensures { result ≡ swapped m b bay }
 {
@@ -41,6 +46,7 @@ fn swap(m: Machine, b: u8, bay: Bay) -> Machine
 }
 
 // The machine after a pack was put in, before it settles.
+#[inline(always)]
 pub fn insert(m: Machine, b: u8) -> Machine
     ensures { result ≡ act m (event.Insertion b) }
 {
@@ -48,6 +54,7 @@ pub fn insert(m: Machine, b: u8) -> Machine
 }
 
 // The machine after a pack was pulled, before it settles.
+#[inline(always)]
 pub fn remove(m: Machine, b: u8) -> Machine
     ensures { result ≡ act m (event.Removal b) }
 {
@@ -55,6 +62,7 @@ pub fn remove(m: Machine, b: u8) -> Machine
 }
 
 // The reading a where c holds, else b.
+#[inline(always)]
 fn choose_reading(c: bool, a: Reading, b: Reading) -> Reading
     ensures { result ≡ cond c a b }
 {
@@ -62,6 +70,7 @@ fn choose_reading(c: bool, a: Reading, b: Reading) -> Reading
 }
 
 // A bay after a signal was read, here or at another.
+#[inline(always)]
 fn take_signal(here: bool, bay: Bay, ohms: u32) -> Bay
     ensures { result ≡ signal_read here bay ohms }
 {
@@ -76,6 +85,7 @@ fn take_signal(here: bool, bay: Bay, ohms: u32) -> Bay
 }
 
 // The machine after a bay's safety signal was read, before it settles.
+#[inline(always)]
 pub fn read_signal(m: Machine, b: u8, ohms: u32) -> Machine
     ensures { result ≡ act m (event.Signal b ohms) }
 {
@@ -88,6 +98,7 @@ pub fn read_signal(m: Machine, b: u8, ohms: u32) -> Machine
 }
 
 // A bay after a terminal voltage was read, here or at another.
+#[inline(always)]
 fn take_terminal(here: bool, s: Setup, bay: Bay, millivolts: u16) -> Bay
     ensures { result ≡ terminal_read here s bay millivolts }
 {
@@ -106,6 +117,7 @@ fn take_terminal(here: bool, s: Setup, bay: Bay, millivolts: u16) -> Bay
 }
 
 // The machine after a bay's terminal voltage was read, before it settles.
+#[inline(always)]
 pub fn read_terminal(m: Machine, b: u8, millivolts: u16) -> Machine
     ensures { result ≡ act m (event.Terminal b millivolts) }
 {
@@ -119,6 +131,7 @@ pub fn read_terminal(m: Machine, b: u8, millivolts: u16) -> Machine
 }
 
 // The machine after an AC event, before it settles.
+#[inline(always)]
 pub fn set_ac(m: Machine, present: bool) -> Machine
     ensures { result ≡ act m (event.Ac present) }
 {

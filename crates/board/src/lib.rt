@@ -1,6 +1,7 @@
 // The analogue board's two rules: how a request is limited, and what a reading of the safety signal means.
-ghost use Rattle.std.specs.Prelude.{◌≡◌, ◌≤◌};
-ghost use Rattle.model.specs.If.{if◌then◌else◌};
+#![tactic(auto)]
+
+ghost use Rattle.std.specs.Prelude.{◌≡◌, ◌≤◌, if◌then◌else◌};
 ghost use Rattle.model.specs.Board.{limited, class_of, class_read, allowed, allowed_to_wake, class_bits};
 
 use model::{Class, Edge, Limit, Reading};

@@ -1,9 +1,8 @@
 -- What each word, a tick, a fresh start and AC arriving do to the charger: the model's rules read by event, as proofs/ByEvent.antt shows.
-use Rattle.std.specs.Prelude.{ℕ, Bool, true, false, eqb}
+use Rattle.std.specs.Prelude.{ℕ, Bool, true, false, eqb, if◌then◌else◌}
 use Rattle.model.specs.declared.Request.{Request}
 use Rattle.model.specs.declared.Wake.{Wake}
 use Rattle.model.specs.declared.Charger.{Charger}
-use Rattle.model.specs.If.{if◌then◌else◌}
 use Rattle.model.specs.Words.{bit, alarming}
 use Rattle.model.specs.ChargerRules.{older}
 

@@ -1,8 +1,9 @@
 // The charger's words, a tick, a fresh start, AC arriving, the output and the status word.
-ghost use Rattle.std.specs.Prelude.{◌≡◌, ◌≤◌};
+#![tactic(auto)]
+
+ghost use Rattle.std.specs.Prelude.{◌≡◌, ◌≤◌, if◌then◌else◌};
 ghost use Rattle.model.specs.declared.Event.TheVariants as event;
 ghost use Rattle.model.specs.ChargerRules as rules;
-ghost use Rattle.model.specs.If.{if◌then◌else◌};
 ghost use Rattle.model.specs.Board.{allows, allows_to_wake};
 ghost use Rattle.model.specs.Machines.{act};
 ghost use Rattle.model.specs.Reads.{ready, charging, waking, output, above_largest, signal_bits, status_word};
@@ -271,6 +272,7 @@ fn is_waking(m: Machine) -> bool
 }
 
 // The charge output: both requests cut to the limits, the wake pair, or 0 mA and 0 mV.
+#[inline(always)]
 pub fn output_of(m: Machine) -> Output
     ensures { result ≡ output m }
 {

@@ -1,4 +1,5 @@
 -- A word as it is shown, byte after byte; and what is found.
+use Rattle.std.specs.Prelude.{if◌then◌else◌}
 use Prim.Native.Nat.{ℕ, zero, suc, ◌+◌, ◌≤◌, ◌<◌}
 use native.Mathlib.Omega.{arith}
 use mathlib.Core.Path.{◌≡◌, refl}
@@ -6,7 +7,6 @@ use mathlib.Core.List.{List, [], ◌∷◌, ◌++◌, append-nil}
 use lib.ListN.{length, get_or, take, length-append}
 use lib.Seq.{take_all}
 use borrow.Author.Tests.{eq-eqb, ne_eqb, lt-ltb, le-ltb}
-use Rattle.model.specs.If.{if◌then◌else◌}
 use Rattle.spelling.specs.Text.{text}
 use Rattle.notation.specs.declared.Field.{Field}
 use Rattle.notation.specs.declared.Field.TheVariants.{Opening, Bay, Address, Code, Word, Ohms, Millivolts, Present, Ticks, Rest, Length}

@@ -1,6 +1,8 @@
 // What is said of a wrong line, put into a buffer that the caller lends: the line's number, the field that is wrong, what was expected
 // there and what was found. It asks for the room of the longest such text. Without it the answer is 14, as the log's writer has it, and
 // no byte changes.
+#![tactic(auto)]
+
 ghost use Rattle.std.specs.Prelude.{◌≡◌, [], ◌+◌, ◌≤◌, length, get_or};
 ghost use Rattle.layout.specs.Writing.{placed, put};
 ghost use Rattle.pieces.specs.Pieces.{piece_spec, piece_after, place_after, text_after};

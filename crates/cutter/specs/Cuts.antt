@@ -1,6 +1,5 @@
 -- Where lines and words begin and end, a step on the way: what the code's functions promise.
-use Rattle.std.specs.Prelude.{ℕ, ◌+◌, Bool, not, List, [], ◌∷◌, length, drop}
-use Rattle.model.specs.If.{if◌then◌else◌}
+use Rattle.std.specs.Prelude.{ℕ, ◌+◌, Bool, not, List, [], ◌∷◌, length, drop, if◌then◌else◌}
 use Rattle.notation.specs.Words.{line_feed, line_in, size_in, blank, stops}
 use Rattle.cutter.specs.declared.Line.{Line}
 use Rattle.cutter.specs.declared.Word.{Word}

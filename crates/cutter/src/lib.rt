@@ -1,17 +1,19 @@
 // A text cut into lines, and a line into words: where they begin and end.
+#![tactic(auto)]
+
 ghost use Rattle.std.specs.Prelude.{◌≡◌};
 ghost use Rattle.notation.specs.Words.{blank, stops};
 ghost use Rattle.cutter.specs.Cuts.{first_line, past, plain, first_word};
 
 // The first line of a text: its bytes, and how many it takes with its line feed.
-#[derive(Drop)]
+#[derive(Clone, Copy)]
 pub struct Line {
     pub size: usize,
     pub taken: usize,
 }
 
 // A word of a line, from one place up to another; empty where there is none.
-#[derive(Drop)]
+#[derive(Clone, Copy)]
 pub struct Word {
     pub from: usize,
     pub to: usize,
@@ -23,7 +25,8 @@ pub fn line_in(text: &[u8]) -> Line
 {
     let mut i = 0;
     while i < text.len() {
-        if text[i] == b'\n' {
+        let is_line_feed = text[i] == b'\n';
+        if is_line_feed {
             return Line {
                 size: i,
                 taken: i + 1,
@@ -35,6 +38,7 @@ pub fn line_in(text: &[u8]) -> Line
 }
 
 // The first word of a line from a place on.
+#[tactic(auto, unfolding(crate::specs::Cuts::first_word))]
 pub fn word_from(line: &[u8], at: usize) -> Word
     ensures { result ≡ first_word line.now at }
 {
@@ -75,6 +79,7 @@ fn past_word(line: &[u8], at: usize) -> usize
 }
 
 // A space, a tab or a carriage return.
+#[tactic(auto, unfolding(notation::specs::Words::blank))]
 fn is_blank(b: u8) -> bool
     ensures { result ≡ blank b }
 {

@@ -1,6 +1,5 @@
 -- The number that an argument or a word gives, as it is handed on.
-use Rattle.std.specs.Prelude.{ℕ, min, true, false, List, leb}
-use Rattle.model.specs.If.{if◌then◌else◌}
+use Rattle.std.specs.Prelude.{ℕ, min, true, false, List, leb, if◌then◌else◌}
 use Rattle.spelling.specs.Numbers.{Number, number, none, spelled}
 use Rattle.figures.specs.declared.Figure.{Figure}
 use Rattle.figures.specs.declared.Value.{Value}

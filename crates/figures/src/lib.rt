@@ -1,17 +1,19 @@
 // Numbers as the arguments of a program and the words of a text give them.
+#![tactic(auto)]
+
 ghost use Rattle.std.specs.Prelude.{◌≡◌, ◌+◌, ◌*◌, ◌≤◌, min};
 ghost use Rattle.spelling.specs.Numbers.{digit_in, spelled, marked, number_in};
 ghost use Rattle.figures.specs.Figures.{value_of, word_for, no_figure, figure_of};
 
 // A number, if there is one. Those above 32 bits count alike: each is held at 2 ^ 32.
-#[derive(Drop)]
+#[derive(Clone, Copy)]
 pub struct Value {
     pub value: u64,
     pub is_number: bool,
 }
 
 // A number of a setup, if the text is one.
-#[derive(Drop)]
+#[derive(Clone, Copy)]
 pub struct Figure {
     pub word: u16,
     pub is_good: bool,
@@ -51,6 +53,7 @@ pub fn no_figure() -> Figure
 }
 
 // Whether a word begins with `0x`.
+#[tactic(auto, unfolding(spelling::specs::Numbers::marked))]
 fn is_marked(word: &[u8]) -> bool
     ensures { result ≡ marked word.now }
 {
@@ -94,6 +97,7 @@ fn with_digit(value: u64, base: u64, d: u64) -> u64
 }
 
 // The digit that a byte stands for, 16 if it stands for none.
+#[tactic(auto, unfolding(spelling::specs::Numbers::digit_in))]
 fn digit_in(b: u8) -> u64
     ensures { result ≡ digit_in b }
 {
@@ -110,6 +114,7 @@ fn digit_in(b: u8) -> u64
 }
 
 // A number as a word, and another word for one that is too large.
+#[tactic(auto, unfolding(crate::specs::Figures::word_for))]
 fn word_of(value: u64, beyond: u16) -> u16
     ensures { result ≡ word_for beyond value }
 {

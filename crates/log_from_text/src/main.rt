@@ -1,6 +1,6 @@
 // Writes the log of the text on standard input, up to the first line that is wrong.
-use libc::{STDIN_FILENO, STDOUT_FILENO};
+#![tactic(auto)]
 
-fn main() {
-    scribe::record(STDIN_FILENO, STDOUT_FILENO);
+fn main(rt: HostRuntime) {
+    scribe::record(&mut rt.stdin(), &mut rt.stdout(), rt.stderr());
 }

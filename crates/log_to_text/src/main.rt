@@ -1,6 +1,6 @@
 // Writes the text of the log on standard input: a line for each record, which log_from_text reads back.
-use libc::{STDIN_FILENO, STDOUT_FILENO};
+#![tactic(auto)]
 
-fn main() {
-    scribe::transcribe(STDIN_FILENO, STDOUT_FILENO);
+fn main(rt: HostRuntime) {
+    scribe::transcribe(&mut rt.stdin(), &mut rt.stdout(), rt.stderr());
 }

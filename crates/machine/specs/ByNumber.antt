@@ -1,7 +1,6 @@
 -- A bay by a number that may be past the four.
-use Rattle.std.specs.Prelude.{ℕ, List, ltb}
+use Rattle.std.specs.Prelude.{ℕ, List, ltb, if◌then◌else◌}
 use Rattle.model.specs.declared.Bay.{Bay}
-use Rattle.model.specs.If.{if◌then◌else◌}
 use Rattle.model.specs.Bays.{empty_bay, bay_at}
 
 -- bay number b; an empty one past the four, whatever stands there in a longer list, which the code's array never is

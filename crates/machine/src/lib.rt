@@ -1,4 +1,6 @@
 // Which setups and machines are refused, the bays of a machine, and a machine with one part anew.
+#![tactic(auto)]
+
 ghost use Rattle.std.specs.Prelude.{◌≡◌, cond};
 ghost use Rattle.model.specs.Bays.{empty_bay, bay_named};
 ghost use Rattle.model.specs.Machines.{with_bays, with_charger, with_notice};

@@ -35,11 +35,11 @@ module _ (P : Machine → Past → Type 0) (kept : Kept P) where
   one zero m e h q a = rw heard (kept m e h (passes m e q) a)
   one (suc n) m e h q a = a
 
-  from : (m : Machine) (xs : List Entry) (es : List Event) → P m (accepted xs) → P (run_from m es) (accepted (said_from m xs es))
+  from : (es : List Event) (m : Machine) (xs : List Entry) → P m (accepted xs) → P (run_from m es) (accepted (said_from m xs es))
   unfolding run_from said_from accepted step_spec
-  from m xs [] a = a
-  from m xs (e ∷ es) a = from _ _ es (one (refusal m e) m e (accepted xs) refl a)
+  from [] m xs a = a
+  from (e ∷ es) m xs a = from es _ _ (one (refusal m e) m e (accepted xs) refl a)
 
   pub along : (s : Setup) → P (power_on s) [] → (es : List Event) → P (run s es) (past s es)
   unfolding run history accepted
-  along s a es = from (power_on s) [] es a
+  along s a es = from es (power_on s) [] a

@@ -1,6 +1,6 @@
 -- Where a counted word came from: the host, or the pack now in the connected bay.
 use Prim.Native.Nat.{ℕ}
-use mathlib.Core.Path.{◌≡◌, refl, sym, ◌∙◌, ap}
+use mathlib.Core.Path.{◌≡◌, refl, sym, ◌∙◌, ap, subst}
 use mathlib.Core.Logic.{◌⊎◌, inl, inr}
 use mathlib.Core.Bool.{Bool, true, false, not, cond, ◌&&◌, ◌||◌, true≢false}
 use mathlib.Core.List.{List, [], ◌∷◌}
@@ -15,7 +15,7 @@ use Rattle.model.specs.Bays.{bay_at}
 use Rattle.model.specs.Refusals.{not_charging_bay}
 use Rattle.model.specs.Facts.{Past, latest, since, some, since_fresh, holds_pack, pack_at, connected, fresh_start, asked}
 use Rattle.model.specs.Runs.{run, past}
-use Rattle.model.specs.Origin.{Counted}
+use Rattle.model.specs.Origin.{Counted, Undisturbed}
 use Rattle.model.specs.Promises.{CountedFrom}
 use Rattle.model.proofs.Bools.{or_l, or_r, and_then}
 use Rattle.model.proofs.Passes.{Passes}
@@ -87,7 +87,7 @@ module _ (k : Kind) (e : Event) (h : Past) (quiet : fresh_start e h ≡ false) (
         value = rw (asked_step, quiet, unzeroed, i) old.value;
         connection = rw (steady e h quiet).0 old.connection;
         pack = rw (steady e h quiet).0 old.pack;
-        steady = (ap (λ t. connected (e ∷ t)) (sym old.stands), rw (steady e h quiet).0 (steady e h quiet).1, rw (steady e h quiet).0 old.steady);
+        steady = (ap (λ t. connected (e ∷ t)) (sym old.stands), rw (steady e h quiet).0 (steady e h quiet).1, subst (λ c. Undisturbed c old.later (old.word ∷ old.before)) (sym (steady e h quiet).0) old.steady);
         sender = rw (steady e h quiet).0 old.sender;
       }
 

@@ -1,11 +1,10 @@
 -- The four bays: the one that a nibble names, what a candidate is, and what an event leaves in each.
-use Rattle.std.specs.Prelude.{ℕ, Bool, true, false, not, ◌&&◌, List, [], ◌∷◌, ltb, leb, eqb, get_or}
+use Rattle.std.specs.Prelude.{ℕ, Bool, true, false, not, ◌&&◌, List, [], ◌∷◌, ltb, leb, eqb, get_or, if◌then◌else◌}
 use Rattle.model.specs.declared.Setup.{Setup}
 use Rattle.model.specs.declared.Reading.{Reading}
 use Rattle.model.specs.declared.Reading.TheVariants.{Unread, Ohms}
 use Rattle.model.specs.declared.Bay.{Bay}
 use Rattle.model.specs.declared.Event.{Event}
-use Rattle.model.specs.If.{if◌then◌else◌}
 use Rattle.model.specs.Words.{named, bay_number, ok_in}
 use Rattle.model.specs.Events.{presets_word, insertion, removal, signal, terminal, is, at_bay, word_of, bay_of}
 

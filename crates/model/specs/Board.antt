@@ -1,5 +1,5 @@
 -- The analogue board's two rules: how a request is limited, and what a reading of the safety signal means.
-use Rattle.std.specs.Prelude.{ℕ, min, ◌+◌, ◌^◌, Bool, true, false, List, [], ◌∷◌, ltb, eqb}
+use Rattle.std.specs.Prelude.{ℕ, min, ◌+◌, ◌^◌, Bool, true, false, List, [], ◌∷◌, ltb, eqb, if◌then◌else◌}
 use Rattle.model.specs.declared.Limit.{Limit}
 use Rattle.model.specs.declared.Reading.{Reading}
 use Rattle.model.specs.declared.Reading.TheVariants.{Unread, Ohms}
@@ -7,7 +7,6 @@ use Rattle.model.specs.declared.Class.{Class}
 use Rattle.model.specs.declared.Class.TheVariants.{Under, Hot, Plain, Cold, Over}
 use Rattle.model.specs.declared.Edge.{Edge}
 use Rattle.model.specs.declared.Output.{Output}
-use Rattle.model.specs.If.{if◌then◌else◌}
 
 -- request 65535 gives the safe value; otherwise the smaller of request and largest
 unfoldable pub limited : Limit → ℕ → ℕ

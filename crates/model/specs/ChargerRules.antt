@@ -1,11 +1,10 @@
 -- The charger's registers after an accepted event.
-use Rattle.std.specs.Prelude.{ℕ, ◌+◌, Bool, true, false, not, ◌&&◌, ◌||◌, ltb, eqb}
+use Rattle.std.specs.Prelude.{ℕ, ◌+◌, Bool, true, false, not, ◌&&◌, ◌||◌, ltb, eqb, if◌then◌else◌}
 use Rattle.model.specs.declared.Request.{Request}
 use Rattle.model.specs.declared.Wake.{Wake}
 use Rattle.model.specs.declared.Charger.{Charger}
 use Rattle.model.specs.declared.Machine.{Machine}
 use Rattle.model.specs.declared.Event.{Event}
-use Rattle.model.specs.If.{if◌then◌else◌}
 use Rattle.model.specs.Words.{bit}
 use Rattle.model.specs.Events.{Kind, current_word, voltage_word, alarm_word, mode_word, tick, is, swaps_at, resets, zeroes, asks, alarms, word_of}
 use Rattle.model.specs.SelectorRules.{ac_goes, charge_after}

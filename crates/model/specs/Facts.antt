@@ -1,11 +1,10 @@
 -- The eight facts, and those of the wake pair, told from the events and their answers alone. No register is named here.
-use Rattle.std.specs.Prelude.{ℕ, suc, ◌<◌, ◌≡◌, Bool, true, false, not, ◌&&◌, ◌||◌, List, [], ◌∷◌, ltb, eqb}
+use Rattle.std.specs.Prelude.{ℕ, suc, ◌<◌, ◌≡◌, Bool, true, false, not, ◌&&◌, ◌||◌, List, [], ◌∷◌, ltb, eqb, if◌then◌else◌}
 use Rattle.model.specs.declared.Setup.{Setup}
 use Rattle.model.specs.declared.Event.{Event}
 use Rattle.model.specs.declared.Reading.{Reading}
 use Rattle.model.specs.declared.Reading.TheVariants.{Unread, Ohms}
 use Rattle.model.specs.declared.Output.{Output}
-use Rattle.model.specs.If.{if◌then◌else◌}
 use Rattle.model.specs.Numbers.{Said, done, word, refused}
 use Rattle.model.specs.Words.{bit, named, bay_number, alarming, charge_in, ok_in}
 use Rattle.model.specs.Board.{limited, no_output, allows, allows_to_wake}

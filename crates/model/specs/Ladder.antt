@@ -1,8 +1,7 @@
 -- The ohm ranges as one decision, a ladder of comparisons: the rule as it stood before its list of edges. `WalkIsTheLadder` ties the two.
-use Rattle.std.specs.Prelude.{ℕ, ltb}
+use Rattle.std.specs.Prelude.{ℕ, ltb, if◌then◌else◌}
 use Rattle.model.specs.declared.Class.{Class}
 use Rattle.model.specs.declared.Class.TheVariants.{Under, Hot, Plain, Cold, Over}
-use Rattle.model.specs.If.{if◌then◌else◌}
 
 -- below 500 HOT and UR; 500 to 2999 HOT; 3000 to 30000 plain; 30001 to 100000 COLD; above 100000 OR and COLD
 unfoldable pub ladder : ℕ → Class

@@ -1,5 +1,4 @@
 -- In the order to read them.
-pub mod If
 pub mod Numbers
 pub mod Words
 pub mod Board

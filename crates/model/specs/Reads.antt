@@ -1,12 +1,11 @@
 -- What the machine shows: its output, and the words that the host reads.
-use Rattle.std.specs.Prelude.{ℕ, ◌+◌, ◌^◌, Bool, true, not, ◌&&◌, ◌||◌, List, ltb, eqb}
+use Rattle.std.specs.Prelude.{ℕ, ◌+◌, ◌^◌, Bool, true, not, ◌&&◌, ◌||◌, List, ltb, eqb, if◌then◌else◌}
 use Rattle.model.specs.declared.Limit.{Limit}
 use Rattle.model.specs.declared.Bay.{Bay}
 use Rattle.model.specs.declared.Reading.{Reading}
 use Rattle.model.specs.declared.Machine.{Machine}
 use Rattle.model.specs.declared.Output.{Output}
 use Rattle.model.specs.declared.Event.{Event}
-use Rattle.model.specs.If.{if◌then◌else◌}
 use Rattle.model.specs.Words.{on, nibble, nibbles, inverted}
 use Rattle.model.specs.Board.{limited, no_output, class_read, allows, allows_to_wake, class_bits}
 use Rattle.model.specs.Events.{spec_read, status_read, state_read, presets_read, info_read, is}

@@ -1,5 +1,5 @@
 -- What is refused, and by which number: each condition by itself, then the numbers in the paper's order.
-use Rattle.std.specs.Prelude.{ℕ, Bool, true, false, not, ◌&&◌, ◌||◌, List, ltb, leb, eqb}
+use Rattle.std.specs.Prelude.{ℕ, Bool, true, false, not, ◌&&◌, ◌||◌, List, ltb, leb, eqb, if◌then◌else◌}
 use Rattle.model.specs.declared.Limit.{Limit}
 use Rattle.model.specs.declared.Setup.{Setup}
 use Rattle.model.specs.declared.Reading.{Reading}
@@ -7,7 +7,6 @@ use Rattle.model.specs.declared.Reading.TheVariants.{Unread, Ohms}
 use Rattle.model.specs.declared.Bay.{Bay}
 use Rattle.model.specs.declared.Machine.{Machine}
 use Rattle.model.specs.declared.Event.{Event}
-use Rattle.model.specs.If.{if◌then◌else◌}
 use Rattle.model.specs.Words.{bit, named, bay_number, names, smb_in, power_in, charge_in, next_in}
 use Rattle.model.specs.Events.{state_word, presets_word, insertion, removal, signal, terminal, no_such_word, is, at_bay, word_of, bay_of, from_bay}
 use Rattle.model.specs.Bays.{bay_at, bay_named, candidate}

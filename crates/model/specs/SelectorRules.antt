@@ -1,8 +1,7 @@
 -- AC, the selector's four nibbles and the notice after an accepted event, before the machine settles.
-use Rattle.std.specs.Prelude.{ℕ, Bool, true, false, not, ◌&&◌, eqb}
+use Rattle.std.specs.Prelude.{ℕ, Bool, true, false, not, ◌&&◌, eqb, if◌then◌else◌}
 use Rattle.model.specs.declared.Machine.{Machine}
 use Rattle.model.specs.declared.Event.{Event}
-use Rattle.model.specs.If.{if◌then◌else◌}
 use Rattle.model.specs.Words.{bay_number, smb_in, power_in, charge_in, next_in, ok_in}
 use Rattle.model.specs.Events.{state_word, presets_word, state_read, ac_event, is, swaps, says_present, connects, word_of}
 use Rattle.model.specs.Bays.{bay_named}

@@ -1,8 +1,7 @@
 -- The three steps after each accepted event, in order, and the notice of an automatic power change.
-use Rattle.std.specs.Prelude.{ℕ, Bool, not, ◌&&◌, ◌||◌, List, eqb}
+use Rattle.std.specs.Prelude.{ℕ, Bool, not, ◌&&◌, ◌||◌, List, eqb, if◌then◌else◌}
 use Rattle.model.specs.declared.Bay.{Bay}
 use Rattle.model.specs.declared.Machine.{Machine}
-use Rattle.model.specs.If.{if◌then◌else◌}
 use Rattle.model.specs.Bays.{bay_named, candidate}
 use Rattle.model.specs.Machines.{with_selector, with_notice}
 

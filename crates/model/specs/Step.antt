@@ -1,10 +1,9 @@
 -- What is told: the answer and the machine after an event, and after power-on.
-use Rattle.std.specs.Prelude.{ℕ, zero, suc}
+use Rattle.std.specs.Prelude.{ℕ, zero, suc, if◌then◌else◌}
 use Rattle.model.specs.declared.Setup.{Setup}
 use Rattle.model.specs.declared.Machine.{Machine}
 use Rattle.model.specs.declared.Event.{Event}
 use Rattle.model.specs.declared.Stepped.{Stepped}
-use Rattle.model.specs.If.{if◌then◌else◌}
 use Rattle.model.specs.Numbers.{Said, done, word, refused, said}
 use Rattle.model.specs.Machines.{program_setup, power_on, act}
 use Rattle.model.specs.Settling.{settle}

@@ -1,6 +1,5 @@
 -- What a 16-bit word holds: bits, nibbles, and the bay that a nibble names.
-use Rattle.std.specs.Prelude.{ℕ, ◌+◌, ◌-◌, ◌*◌, ◌/◌, ◌%◌, ◌^◌, Bool, not, ◌&&◌, ◌||◌, eqb}
-use Rattle.model.specs.If.{if◌then◌else◌}
+use Rattle.std.specs.Prelude.{ℕ, ◌+◌, ◌-◌, ◌*◌, ◌/◌, ◌%◌, ◌^◌, Bool, not, ◌&&◌, ◌||◌, eqb, if◌then◌else◌}
 
 -- bit k of a word is set
 unfoldable pub bit : ℕ → ℕ → Bool

@@ -1,7 +1,9 @@
 // The types that every other crate speaks of: a setup, a machine, its events and its answers.
 
 // The largest value of a request, and the value that a request of 65535 gives.
-#[derive(Drop)]
+#![tactic(auto)]
+
+#[derive(Clone, Copy)]
 pub struct Limit {
     pub largest: u16,
     pub safe: u16,
@@ -9,7 +11,7 @@ pub struct Limit {
 
 // What is fixed when the shelf is built: the supported bays as a nibble, the two limits in mA and mV, the terminal voltages in mV
 // that set and clear a bay's low mark, and the wake pair, which is supplied to a pack that has not asked yet; 0 mA switches it off.
-#[derive(Drop)]
+#[derive(Clone, Copy)]
 pub struct Setup {
     pub supported: u16,
     pub current: Limit,
@@ -20,14 +22,14 @@ pub struct Setup {
 }
 
 // The safety signal of a bay since its pack was put in.
-#[derive(Drop)]
+#[derive(Clone, Copy)]
 pub enum Reading {
     Unread,
     Ohms(u32),
 }
 
 // What the analogue board makes of a safety signal: under range and hot, hot, plain, cold, over range and cold.
-#[derive(Drop)]
+#[derive(Clone, Copy)]
 pub enum Class {
     Under,
     Hot,
@@ -37,10 +39,10 @@ pub enum Class {
 }
 
 // An edge of the safety signal's ranges, in ohms, and the class of the readings below it that reach the edge before.
-#[derive(Drop)]
+#[derive(Clone, Copy)]
 pub struct Edge(pub u32, pub Class);
 
-#[derive(Drop)]
+#[derive(Clone, Copy)]
 pub struct Bay {
     pub present: bool,
     pub ok: bool,
@@ -49,7 +51,7 @@ pub struct Bay {
 }
 
 // A request for current or voltage: the word, its age in ticks, and its rewrite mark.
-#[derive(Drop)]
+#[derive(Clone, Copy)]
 pub struct Request {
     pub word: u16,
     pub age: u16,
@@ -58,13 +60,13 @@ pub struct Request {
 
 // Wake-up: its age in ticks, from the later of the latest fresh start and the latest AC arrival; and whether it is spent, by a current
 // word, a voltage word or a zeroing of both requests since the latest fresh start.
-#[derive(Drop)]
+#[derive(Clone, Copy)]
 pub struct Wake {
     pub age: u16,
     pub spent: bool,
 }
 
-#[derive(Drop)]
+#[derive(Clone, Copy)]
 pub struct Charger {
     pub current: Request,
     pub voltage: Request,
@@ -74,7 +76,7 @@ pub struct Charger {
 }
 
 // The four nibbles SMB, POWER_BY, CHARGE and USE_NEXT: each 0 or the bit of one bay.
-#[derive(Drop)]
+#[derive(Clone, Copy)]
 pub struct Selector {
     pub smb: u16,
     pub power: u16,
@@ -83,7 +85,7 @@ pub struct Selector {
 }
 
 // A shelf at one moment. The order is one that costs few instructions, in a step and in a listing.
-#[derive(Drop)]
+#[derive(Clone, Copy)]
 pub struct Machine {
     pub setup: Setup,
     pub selector: Selector,
@@ -93,7 +95,7 @@ pub struct Machine {
     pub bays: [Bay; 4],
 }
 
-#[derive(Drop)]
+#[derive(Clone, Copy)]
 pub enum Event {
     HostWrite { address: u8, code: u8, word: u16 },
     HostRead { address: u8, code: u8 },
@@ -107,7 +109,7 @@ pub enum Event {
 }
 
 // Why something is refused, in the order of the paper's numbers 1 to 15.
-#[derive(Drop)]
+#[derive(Clone, Copy)]
 pub enum Refusal {
     BadSetup,
     UnsupportedBay,
@@ -127,7 +129,7 @@ pub enum Refusal {
 }
 
 // Done, a word that was read, or a refusal.
-#[derive(Drop)]
+#[derive(Clone, Copy)]
 pub enum Answer {
     Done,
     Word(u16),
@@ -135,14 +137,14 @@ pub enum Answer {
 }
 
 // An answer beside the machine after it.
-#[derive(Drop)]
+#[derive(Clone, Copy)]
 pub struct Stepped {
     pub answer: Answer,
     pub machine: Machine,
 }
 
 // What the charger supplies: both values, or 0 and 0.
-#[derive(Drop)]
+#[derive(Clone, Copy)]
 pub struct Output {
     pub milliamps: u16,
     pub millivolts: u16,

@@ -1,4 +1,6 @@
 // The refusals' numbers in code.
+#![tactic(auto)]
+
 ghost use Rattle.std.specs.Prelude.{◌≡◌};
 ghost use Rattle.model.specs.Numbers.{number_of};
 

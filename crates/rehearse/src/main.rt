@@ -1,39 +1,53 @@
 // Prints the listings of the logs that lie beside it, each behind its name: the paper's, short examples, one log at least for each way in
 // which a log can end, one under a setup that is refused, and a folder, which cannot be read and so has no end line. Its buffers are
 // small, so that each log is read in many pieces and written in many.
-use libc::STDOUT_FILENO;
-use model::Setup;
+#![tactic(auto)]
 
-fn main() {
+use model::Setup;
+use std::fs::File;
+use std::io::Write;
+use window::say_failed;
+
+fn main(rt: HostRuntime) {
     let setup = shelf::program_setup();
-    show(b"paper.log", setup);
-    show(b"swap.log", setup);
-    show(b"ac_lost.log", setup);
-    show(b"refusals.log", setup);
-    show(b"fixed_resistor.log", setup);
-    show(b"empty.log", setup);
-    show(b"one_byte.log", setup);
-    show(b"cut_off.log", setup);
-    show(b"bad_length.log", setup);
-    show(b"other_length.log", setup);
-    show(b"unknown_kind.log", setup);
-    show(b"bad_ac_byte.log", setup);
-    show(b"swap.log", without_bays(setup));
-    show(b".", setup);
+    show(rt, "paper.log", setup);
+    show(rt, "swap.log", setup);
+    show(rt, "ac_lost.log", setup);
+    show(rt, "refusals.log", setup);
+    show(rt, "fixed_resistor.log", setup);
+    show(rt, "empty.log", setup);
+    show(rt, "one_byte.log", setup);
+    show(rt, "cut_off.log", setup);
+    show(rt, "bad_length.log", setup);
+    show(rt, "other_length.log", setup);
+    show(rt, "unknown_kind.log", setup);
+    show(rt, "bad_ac_byte.log", setup);
+    show(rt, "swap.log", without_bays(setup));
+    show(rt, ".", setup);
 }
 
-fn show(name: &[u8], setup: Setup) {
-    io::write_all(STDOUT_FILENO, name);
-    io::write_all(STDOUT_FILENO, b"\n");
-    let log = os::open_read(name);
-    if log < 0 {
-        os::fail(name);
-        return;
-    }
+fn show(rt: HostRuntime, name: &str, setup: Setup) {
+    let mut listing = rt.stdout();
+    let mut errors = rt.stderr();
+    let _ = listing.write_all(name.as_bytes());
+    let _ = listing.write_all(b"\n");
+    let mut log = match File::open(&rt, name) {
+        Ok(log) => log,
+        Err(why) => {
+            say_failed(&mut errors, name.as_bytes(), why);
+            return;
+        }
+    };
     let mut window = [0u8; 16];
     let mut out = [0u8; 64];
-    stream::replay_in(setup, log, &mut window, &mut out);
-    libc::close(log);
+    stream::replay_in(
+        setup,
+        &mut log,
+        &mut listing,
+        &mut errors,
+        &mut window,
+        &mut out,
+    );
 }
 
 // A setup that is refused.

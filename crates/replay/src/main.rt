@@ -1,6 +1,7 @@
 // Prints the listing of the log on standard input, under the program's setup.
-use libc::STDIN_FILENO;
+#![tactic(auto)]
 
-fn main() {
-    stream::replay(shelf::program_setup(), STDIN_FILENO);
+fn main(rt: HostRuntime) {
+    let setup = shelf::program_setup();
+    stream::replay(setup, &mut rt.stdin(), &mut rt.stdout(), &mut rt.stderr());
 }

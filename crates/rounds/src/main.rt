@@ -1,36 +1,42 @@
 // The library without its listing, to measure it: goes so many times through the first 65536 bytes of the log on standard input, with
 // one machine. `rounds read COUNT` only reads the records, `rounds step COUNT` also steps the machine. Prints one line: the records of
 // all rounds, the sum of the answers or of the bytes read as four hex digits, and what the board has to drive at the end.
+#![tactic(auto)]
+
 use figures::{Figure, figure_in};
 use layout::{Found, Written};
-use libc::{STDERR_FILENO, STDIN_FILENO, STDOUT_FILENO};
 use model::{Answer, Machine};
+use std::io::Write;
+use std::rt::Env;
 
 // What the rounds came to: the machine, how many records, and the sum.
-#[derive(Drop)]
+#[derive(Clone, Copy)]
 struct Total {
     pub machine: Machine,
     pub records: u64,
     pub sum: u16,
 }
 
-fn main() {
+fn main(rt: HostRuntime) {
     // The first letter of the mode tells it.
-    let mut mode = io::buffer();
-    os::arg(1, &mut mode);
+    let mut mode = [0u8; 4096];
+    let _ = rt.arg(1, &mut mode);
     let letter = mode[0];
     let is_stepping = letter == b's';
-    let count = count_given();
+    let count = count_given(rt);
     if !(count.is_good & (is_stepping | (letter == b'r'))) {
-        io::write_all(STDERR_FILENO, b"usage: rounds read|step COUNT < LOG\n");
+        let _ = rt
+            .stderr()
+            .write_all(b"usage: rounds read|step COUNT < LOG\n");
         return;
     }
-    let mut log = io::large_buffer();
-    let size = io::read_full(STDIN_FILENO, &mut log);
-    print(all_rounds(&log[0..size], count.word, is_stepping));
+    let mut log = [0u8; 65536];
+    let size = window::read_full(&mut rt.stdin(), &mut log);
+    print(rt, all_rounds(&log[0..size], count.word, is_stepping));
 }
 
 // So many rounds, from power-on.
+#[inline(always)]
 fn all_rounds(log: &[u8], count: u16, is_stepping: bool) -> Total {
     let start = shelf::power_on(shelf::program_setup());
     let machine = start.machine;
@@ -48,13 +54,15 @@ fn all_rounds(log: &[u8], count: u16, is_stepping: bool) -> Total {
 }
 
 // The second argument.
-fn count_given() -> Figure {
-    let mut text = io::buffer();
-    let n = os::arg(2, &mut text);
+#[inline(always)]
+fn count_given(rt: HostRuntime) -> Figure {
+    let mut text = [0u8; 4096];
+    let n = rt.arg(2, &mut text).unwrap_or(0);
     figure_in(&text[..n], 0)
 }
 
 // One round: up to the first bad record or the end.
+#[inline(always)]
 fn go_round(total: Total, log: &[u8], is_stepping: bool) -> Total {
     let mut machine = total.machine;
     let mut records = total.records;
@@ -73,11 +81,11 @@ fn go_round(total: Total, log: &[u8], is_stepping: bool) -> Total {
             let stepped = shelf::step(machine, event);
             machine = stepped.machine;
             let answer = stepped.answer;
-            sum = std::num::wrapping_add_u16(sum, value_of(answer));
+            sum = sum.wrapping_add(value_of(answer));
         } else {
-            sum = std::num::wrapping_add_u16(sum, taken as u16);
+            sum = sum.wrapping_add(taken as u16);
         }
-        records = std::num::wrapping_add_u64(records, 1);
+        records = records.wrapping_add(1);
         rest = &rest[taken..];
     }
     Total {
@@ -88,6 +96,7 @@ fn go_round(total: Total, log: &[u8], is_stepping: bool) -> Total {
 }
 
 // An answer as a number: 0, the word, or the refusal's.
+#[inline(always)]
 fn value_of(answer: Answer) -> u16 {
     match answer {
         Answer::Done => 0,
@@ -97,8 +106,9 @@ fn value_of(answer: Answer) -> u16 {
 }
 
 // The line.
-fn print(total: Total) {
-    let mut out = io::buffer();
+#[inline(always)]
+fn print(rt: HostRuntime, total: Total) {
+    let mut out = [0u8; 4096];
     let machine = total.machine;
     let put = lines::line(
         &mut out,
@@ -112,6 +122,6 @@ fn print(total: Total) {
         return;
     };
     if end <= 4096 {
-        io::write_all(STDOUT_FILENO, &out[0..end]);
+        let _ = rt.stdout().write_all(&out[0..end]);
     }
 }

@@ -9,7 +9,7 @@ use Rattle.model.specs.Settling.{kept_smb, kept_power, unpowered, settled_power,
 use Rattle.model.specs.Settling as settling
 use Rattle.model.proofs.Bools.{and_l, and_r, eqb_self}
 use Rattle.words.specs.Masks.{one_of}
-use Rattle.selector.specs.ByMask.{candidate_nibble, kept_in, settled_by}
+use Rattle.selector.specs.ByMask.{candidate_nibble, settled_by}
 use Rattle.selector.proofs.ByMask.{kept_one, kept_smb_lem, kept_power_lem}
 
 -- POWER_BY is there, or AC is

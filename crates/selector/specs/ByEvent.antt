@@ -1,8 +1,7 @@
 -- What the selector's two words do: the model's rules read by event, as proofs/ByEvent.antt shows.
-use Rattle.std.specs.Prelude.{ℕ, not, ◌&&◌, eqb}
+use Rattle.std.specs.Prelude.{ℕ, not, ◌&&◌, eqb, if◌then◌else◌}
 use Rattle.model.specs.declared.Charger.{Charger}
 use Rattle.model.specs.declared.Machine.{Machine}
-use Rattle.model.specs.If.{if◌then◌else◌}
 use Rattle.model.specs.Words.{bay_number, smb_in, power_in, charge_in, next_in, ok_in}
 use Rattle.model.specs.Bays.{all_ok_written}
 use Rattle.model.specs.SelectorRules.{written}

@@ -1,8 +1,7 @@
 -- The selector's rules read by mask, as proofs/ByMask.antt shows.
-use Rattle.std.specs.Prelude.{ℕ, Bool, not, ◌&&◌, ◌||◌, List, eqb}
+use Rattle.std.specs.Prelude.{ℕ, Bool, not, ◌&&◌, ◌||◌, List, eqb, if◌then◌else◌}
 use Rattle.model.specs.declared.Bay.{Bay}
 use Rattle.model.specs.declared.Machine.{Machine}
-use Rattle.model.specs.If.{if◌then◌else◌}
 use Rattle.model.specs.Bays.{bay_at, candidate}
 use Rattle.model.specs.Reads.{may_follow}
 use Rattle.words.specs.Masks.{four, among, one_of, first_in}

@@ -1,4 +1,6 @@
 // The selector's words, what is usable, and the three steps that settle a machine.
+#![tactic(auto)]
+
 ghost use Rattle.std.specs.Prelude.{◌≡◌, not, ◌&&◌, ◌≤◌, eqb};
 ghost use Rattle.model.specs.declared.Event.TheVariants as event;
 ghost use Rattle.model.specs.Words.{next_in};

@@ -1,7 +1,6 @@
 -- What the board is told: an output pair and the notice, or a refusal with its number.
-use Rattle.std.specs.Prelude.{ℕ, Bool}
+use Rattle.std.specs.Prelude.{ℕ, Bool, if◌then◌else◌}
 use Rattle.model.specs.declared.Machine.{Machine}
-use Rattle.model.specs.If.{if◌then◌else◌}
 use Rattle.model.specs.Numbers.{number_of}
 use Rattle.model.specs.Reads.{output}
 use Rattle.model.specs.Refusals.{bad_machine}

@@ -1,5 +1,7 @@
 // The face of the library, for firmware. `power_on` makes a machine of a setup, `step` takes one event, `charge` says what
 // the board has to do. Nothing has to be vetted first: every value gets an answer, and a refusal changes nothing.
+#![tactic(auto)]
+
 ghost use Rattle.std.specs.Prelude.{◌≡◌};
 ghost use Rattle.model.specs.Machines.{program_setup, power_on};
 ghost use Rattle.model.specs.Step.{told, step_spec, power_on_spec};
@@ -11,7 +13,7 @@ use model::{
 };
 
 // What the board has to drive: the charge output and the notice; or the refusal.
-#[derive(Drop)]
+#[derive(Clone, Copy)]
 pub enum Outputs {
     Drive {
         milliamps: u16,
@@ -22,6 +24,7 @@ pub enum Outputs {
 }
 
 // The machine at power-on. A setup out of its ranges is refused with 1, beside the machine of the program's setup.
+#[inline(always)]
 pub fn power_on(setup: Setup) -> Stepped
     ensures { told result ≡ power_on_spec setup }
 {
@@ -37,6 +40,7 @@ pub fn power_on(setup: Setup) -> Stepped
 
 // One event: the answer, and the machine after it. Refused with 15, 2, 3, 4, 5, 6, 7, 8 or 9, in that order, the machine is
 // handed back as it stood.
+#[inline(always)]
 pub fn step(machine: Machine, event: Event) -> Stepped
     ensures { told result ≡ step_spec machine event }
 {
@@ -48,6 +52,7 @@ pub fn step(machine: Machine, event: Event) -> Stepped
 }
 
 // What the board needs after each step; 15 for a machine that breaks a bound.
+#[inline(always)]
 pub fn charge(machine: Machine) -> Outputs
     ensures { shown result ≡ charge_spec machine }
 {
@@ -64,6 +69,7 @@ pub fn charge(machine: Machine) -> Outputs
 }
 
 // AC absent, all bays empty, no request, no nibble, no notice, not inhibited.
+#[inline(always)]
 fn power_on_of(s: Setup) -> Machine
     ensures { result ≡ power_on s }
 {
@@ -102,6 +108,7 @@ fn power_on_of(s: Setup) -> Machine
 }
 
 // The setup of the program, to which a refused one falls back.
+#[inline(always)]
 pub fn program_setup() -> Setup
     ensures { result ≡ program_setup }
 {

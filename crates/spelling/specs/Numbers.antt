@@ -1,6 +1,5 @@
 -- The number that a text spells.
-use Rattle.std.specs.Prelude.{ℕ, ◌+◌, ◌-◌, ◌*◌, Bool, true, not, ◌&&◌, List, [], ◌∷◌, eqb, leb, ltb, length, get_or, drop}
-use Rattle.model.specs.If.{if◌then◌else◌}
+use Rattle.std.specs.Prelude.{ℕ, ◌+◌, ◌-◌, ◌*◌, Bool, true, not, ◌&&◌, List, [], ◌∷◌, eqb, leb, ltb, length, get_or, drop, if◌then◌else◌}
 
 -- the digit that a byte stands for: `0` to `9`, `A` to `F` or `a` to `f`; 16, which is a digit of no base here, for any other
 unfoldable pub digit_in : ℕ → ℕ

@@ -1,5 +1,5 @@
 -- Actions that cannot unsettle a machine touch its charger and its notice alone, and the machine stays settled.
-use mathlib.Core.Path.{◌≡◌, refl, sym, ap, ◌∙◌}
+use mathlib.Core.Path.{◌≡◌, refl, sym, ap}
 use mathlib.Core.Bool.{Bool, true, false, not, ◌&&◌, ◌||◌, or-false, and-false, true≢false}
 use lib.Dec.{ltb, eqb}
 use borrow.Author.Tests.{eqb-true}

@@ -1,5 +1,5 @@
 -- The three ways in which an event is followed: each answers as the definition says.
-use mathlib.Core.Path.{◌≡◌, refl, sym, ◌∙◌, ap}
+use mathlib.Core.Path.{◌≡◌, sym, ◌∙◌}
 use mathlib.Core.Bool.{Bool, true, false, not, ◌&&◌, ◌||◌, false≢true}
 use Rattle.model.specs.declared.Machine.{Machine}
 use Rattle.model.specs.declared.Event.{Event}
@@ -8,7 +8,7 @@ use Rattle.model.specs.declared.Answer.TheVariants.{Done}
 use Rattle.model.specs.declared.Stepped.{Stepped}
 use Rattle.model.specs.Machines.{act}
 use Rattle.model.specs.Numbers.{said}
-use Rattle.model.specs.Step.{Told, told}
+use Rattle.model.specs.Step.{told}
 use Rattle.actions.specs.declared.Action.{Action}
 use Rattle.actions.specs.Meaning.{meant_by, accepts, finished}
 use Rattle.actions.specs.Decision.{decided}

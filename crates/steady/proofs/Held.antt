@@ -1,7 +1,7 @@
 -- What a run makes needless: an event that is followed on a machine of a run comes to what the step says.
 use Prim.Native.Nat.{ℕ, zero, suc}
 use mathlib.Core.Path.{◌≡◌, refl, sym, ap, ◌∙◌, subst}
-use mathlib.Core.Bool.{Bool, true, false, not, cond, ◌&&◌, ◌||◌, or-false, true≢false, false≢true}
+use mathlib.Core.Bool.{Bool, true, false, not, cond, ◌&&◌, ◌||◌, or-false, true≢false}
 use borrow.Author.Tests.{not-true}
 use Rattle.model.specs.declared.Machine.{Machine}
 use Rattle.model.specs.declared.Event.{Event}
@@ -18,7 +18,7 @@ use Rattle.actions.specs.Meaning.{meant_by, accepts, finished}
 use Rattle.actions.specs.Decision.{decided}
 use Rattle.actions.proofs.Ends.{replies, of_good}
 use Rattle.steady.specs.Following.{unsettles, alike, done_by, quiet_by, shown_by, follow_spec}
-use Rattle.steady.specs.Promises.{Held, FollowsTheStep, StaysHeld, QuietKeepsTheOutput}
+use Rattle.steady.specs.Promises.{FollowsTheStep, StaysHeld, QuietKeepsTheOutput}
 use Rattle.steady.proofs.Alone.{alone, settled_alone, output_alone}
 
 -- nothing is left to settle

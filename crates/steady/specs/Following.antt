@@ -1,12 +1,11 @@
 -- An event on a machine that is held from event to event: what it comes to, and what is known of the machine after it.
-use Rattle.std.specs.Prelude.{Bool, true, false, not, ◌&&◌, ◌||◌, ltb, eqb}
+use Rattle.std.specs.Prelude.{Bool, true, false, not, ◌&&◌, ◌||◌, ltb, eqb, if◌then◌else◌}
 use Rattle.model.specs.declared.Setup.{Setup}
 use Rattle.model.specs.declared.Wake.{Wake}
 use Rattle.model.specs.declared.Charger.{Charger}
 use Rattle.model.specs.declared.Machine.{Machine}
 use Rattle.model.specs.declared.Event.{Event}
 use Rattle.model.specs.declared.Event.TheVariants.{HostWrite, HostRead, BayWord, Insertion, Removal, Signal, Terminal, Ac, Tick}
-use Rattle.model.specs.If.{if◌then◌else◌}
 use Rattle.model.specs.Numbers.{said}
 use Rattle.model.specs.Step.{Told}
 use Rattle.actions.specs.declared.Action.{Action}

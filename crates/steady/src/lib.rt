@@ -1,6 +1,8 @@
 // One event on a machine of a run, for who holds the machine from event to event: the step without what a run makes needless. Such a
 // machine breaks no bound, so 15 is not asked again; and once an event was accepted it has settled, so it settles anew only where the
 // event can touch what it settles by. The promises under "What a run makes needless" say when this is the step itself.
+#![tactic(auto)]
+
 ghost use Rattle.std.specs.Prelude.{◌≡◌, ◌&&◌};
 ghost use Rattle.steady.specs.Following as following;
 
@@ -8,7 +10,7 @@ use actions::Action;
 use model::{Answer, Charger, Event, Machine, Setup};
 
 // What an event came to: the answer beside the machine; whether that machine is known to have settled, and its output to be the one before.
-#[derive(Drop)]
+#[derive(Clone, Copy)]
 pub struct Followed {
     pub answer: Answer,
     pub machine: Machine,
@@ -17,6 +19,7 @@ pub struct Followed {
 }
 
 // One event. steady says that the machine has settled.
+#[inline(always)]
 pub fn follow(m: Machine, e: Event, steady: bool) -> Followed
     ensures { following.shown result ≡ following.follow_spec m e steady }
 {
@@ -55,6 +58,7 @@ pub fn follow(m: Machine, e: Event, steady: bool) -> Followed
 }
 
 // Whether an event is a tick.
+#[inline(always)]
 fn is_tick(e: Event) -> bool
     ensures { result ≡ following.is_tick e }
 {
@@ -86,6 +90,7 @@ fn is_tick(e: Event) -> bool
 }
 
 // Whether an action can touch what a machine settles by: its bays, its nibbles, AC.
+#[inline(always)]
 fn unsettles(action: Action) -> bool
     ensures { result ≡ following.unsettles action }
 {
@@ -115,6 +120,7 @@ fn unsettles(action: Action) -> bool
 }
 
 // Whether two chargers are the same to the output. Of wake-up nothing shows where it is switched off.
+#[inline(always)]
 fn is_alike(s: Setup, a: Charger, b: Charger) -> bool
     ensures { result ≡ following.alike s a b }
 {

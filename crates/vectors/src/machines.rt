@@ -5,19 +5,19 @@ use model::{Event, Limit, Machine, Output, Setup, Stepped};
 
 // What a row is answered, and the machine after it. A machine that is handed in with another value in a register meets the event that
 // the row ends with; the story goes on without it.
-pub fn follow(m: Machine, letter: u8, numbers: Numbers) -> Machine {
+pub fn follow(rt: HostRuntime, m: Machine, letter: u8, numbers: Numbers) -> Machine {
     let n = numbers.of;
     match letter {
-        b's' => start(setup_of(numbers)),
+        b's' => start(rt, setup_of(numbers)),
         b'h' => {
             let other = handed::with(m, n[0], n[1], n[2]);
-            print::kept(same::machines(m, other));
-            print::bar();
-            take(other, event_behind(numbers), 1);
+            print::kept(rt, same::machines(m, other));
+            print::bar(rt);
+            take(rt, other, event_behind(numbers), 1);
             m
         }
-        b't' => take(m, Event::Tick, n[0]),
-        _ => take(m, event_of(letter, n[0], n[1], n[2]), 1),
+        b't' => take(rt, m, Event::Tick, n[0]),
+        _ => take(rt, m, event_of(letter, n[0], n[1], n[2]), 1),
     }
 }
 
@@ -32,14 +32,14 @@ fn event_behind(numbers: Numbers) -> Event {
 }
 
 // Power-on: the answer, and whether the machine is the one of the program's setup.
-fn start(setup: Setup) -> Machine {
+fn start(rt: HostRuntime, setup: Setup) -> Machine {
     let started = shelf::power_on(setup);
     let answer = started.answer;
     let machine = started.machine;
     let other = shelf::power_on(shelf::program_setup());
-    print::answer(answer);
-    print::bar();
-    print::kept(same::machines(other.machine, machine));
+    print::answer(rt, answer);
+    print::bar(rt);
+    print::kept(rt, same::machines(other.machine, machine));
     machine
 }
 
@@ -69,15 +69,15 @@ fn setup_of(numbers: Numbers) -> Setup {
 
 // What an event is answered, the last time if it comes several times; what the board has to drive then; and whether the machine is as
 // it was.
-fn take(m: Machine, e: Event, times: u32) -> Machine {
+fn take(rt: HostRuntime, m: Machine, e: Event, times: u32) -> Machine {
     let last = step_on(m, e, times);
     let answer = last.answer;
     let after = last.machine;
-    print::answer(answer);
-    print::bar();
-    print::outputs(shelf::charge(after));
-    print::bar();
-    print::kept(same::machines(m, after));
+    print::answer(rt, answer);
+    print::bar(rt);
+    print::outputs(rt, shelf::charge(after));
+    print::bar(rt);
+    print::kept(rt, same::machines(m, after));
     after
 }
 

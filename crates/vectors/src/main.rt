@@ -1,5 +1,7 @@
 // Reads a table of cases and prints each row with its outcome: what is run and not proved, each refusal, and where slips are easy. The
 // table is the file stdin beside this folder, what it has to come to the file stdout.
+#![tactic(auto)]
+
 mod handed;
 mod log;
 mod machines;
@@ -9,26 +11,28 @@ mod same;
 
 ghost use Rattle.std.specs.Prelude.{◌≤◌, length};
 
-use libc::{STDERR_FILENO, STDIN_FILENO};
 use model::Machine;
+use std::io::Write;
 
-fn main() {
-    let mut table = io::large_buffer();
-    let length = io::read_full(STDIN_FILENO, &mut table);
+fn main(rt: HostRuntime) {
+    let mut table = [0u8; 65536];
+    let length = window::read_full(&mut rt.stdin(), &mut table);
     if length < 65536 {
-        tell_all(&table[..length]);
+        tell_all(rt, &table[..length]);
     } else {
-        io::write_all(STDERR_FILENO, b"the table is longer than 65535 bytes\n");
+        let _ = rt
+            .stderr()
+            .write_all(b"the table is longer than 65535 bytes\n");
     }
 }
 
-fn tell_all(table: &[u8]) {
+fn tell_all(rt: HostRuntime, table: &[u8]) {
     let start = shelf::power_on(shelf::program_setup());
     let mut machine = start.machine;
     let mut from = 0;
     while from < table.len() {
         let to = line_end(table, from);
-        machine = tell(machine, &table[from..to]);
+        machine = tell(rt, machine, &table[from..to]);
         from = to + 1;
     }
 }
@@ -49,14 +53,14 @@ fn line_end(table: &[u8], from: usize) -> usize
 }
 
 // A row as it stands, and behind it what it comes to. An empty line and one that begins with # are for people.
-fn tell(m: Machine, row: &[u8]) -> Machine {
-    print::text(row);
-    let after = outcome(m, row);
-    print::text(b"\n");
+fn tell(rt: HostRuntime, m: Machine, row: &[u8]) -> Machine {
+    print::text(rt, row);
+    let after = outcome(rt, m, row);
+    print::text(rt, b"\n");
     after
 }
 
-fn outcome(m: Machine, row: &[u8]) -> Machine {
+fn outcome(rt: HostRuntime, m: Machine, row: &[u8]) -> Machine {
     if row.len() == 0 {
         return m;
     }
@@ -64,16 +68,16 @@ fn outcome(m: Machine, row: &[u8]) -> Machine {
     if letter == b'#' {
         return m;
     }
-    print::bar();
+    print::bar(rt);
     if !rows::is_known(letter) {
-        print::no_such_row();
+        print::no_such_row(rt);
         return m;
     }
     let numbers = rows::numbers_in(row);
     match letter {
-        b'l' => log::read(numbers),
-        b'f' => log::write(numbers),
-        _ => return machines::follow(m, letter, numbers),
+        b'l' => log::read(rt, numbers),
+        b'f' => log::write(rt, numbers),
+        _ => return machines::follow(rt, m, letter, numbers),
     }
     m
 }

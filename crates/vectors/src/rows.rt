@@ -3,7 +3,7 @@
 use model::Event;
 
 // The numbers in a row, in their order, with zeros behind them; and the first letter of its last word.
-#[derive(Drop)]
+#[derive(Clone, Copy)]
 pub struct Numbers {
     pub count: usize,
     pub of: [u32; 12],
@@ -11,7 +11,7 @@ pub struct Numbers {
 }
 
 // A row that is being read: its numbers so far, the number under way, and whether one is, in hexadecimal, or a word.
-#[derive(Drop)]
+#[derive(Clone, Copy)]
 struct Scan {
     pub numbers: Numbers,
     pub value: u64,

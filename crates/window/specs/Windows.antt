@@ -1,5 +1,5 @@
 -- A window on a file: what is left in it, and what a refill does to it.
-use Rattle.std.specs.Prelude.{ℕ, ◌+◌, ◌-◌, ◌≤◌, min, ◌≡◌, Bool, true, false, ◌||◌, List, eqb, leb, length, take, drop}
+use Rattle.std.specs.Prelude.{ℕ, None, ◌+◌, ◌-◌, ◌≤◌, min, ◌≡◌, Bool, true, ◌||◌, List, eqb, leb, length, take, drop}
 use Rattle.window.specs.declared.Window.{Window}
 
 -- the bytes of a buffer from one place up to another
@@ -24,4 +24,4 @@ pub record Refilled (l l₁ : List ℕ) (wanted : ℕ) (w r : Window) : Type 0 w
   pub ordered : r.from ≤ r.to
   pub inside : r.to ≤ length l₁
   pub kept : take (length (at_hand l w)) (at_hand l₁ r) ≡ at_hand l w
-  pub rested : rests l wanted w ≡ true → (l₁ ≡ l) × (at_hand l₁ r ≡ at_hand l w) × (r.last ≡ w.last) × (r.failed ≡ false)
+  pub rested : rests l wanted w ≡ true → (l₁ ≡ l) × (at_hand l₁ r ≡ at_hand l w) × (r.last ≡ w.last) × (r.failed ≡ None)

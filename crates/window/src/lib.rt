@@ -1,28 +1,32 @@
 // A window on an open file: what is at hand of it stands in a buffer that the caller lends, and is refilled, so that a file of any length
 // takes the same memory.
-ghost use Rattle.std.specs.Prelude.{◌≡◌, false, ◌-◌, ◌≤◌, min, length};
+#![tactic(auto)]
+
+ghost use Rattle.std.specs.Prelude.{◌≡◌, false, ◌-◌, ◌≤◌, min, length, None};
 ghost use Rattle.layout.specs.Writing.{put};
 ghost use Rattle.window.specs.Windows.{between, behind, Refilled};
 
-// What is at hand: the bytes of the buffer from one place up to another. last says that no more will come, failed that the file could not
-// be read.
-#[derive(Drop)]
+use std::io::{Error, Read, Write};
+
+// What is at hand: the bytes of the buffer from one place up to another. last says that no more will come, failed why the file could not be
+// read.
+#[derive(Clone, Copy)]
 pub struct Window {
     pub from: usize,
     pub to: usize,
     pub last: bool,
-    pub failed: bool,
+    pub failed: Option<Error>,
 }
 
 // Nothing yet.
 pub fn unread() -> Window
-    ensures { result ≡ record { from = 0; to = 0; last = false; failed = false } }
+    ensures { result ≡ record { from = 0; to = 0; last = false; failed = None } }
 {
     Window {
         from: 0,
         to: 0,
         last: false,
-        failed: false,
+        failed: None,
     }
 }
 
@@ -45,28 +49,35 @@ pub fn passed(at: Window, taken: usize) -> Window
 }
 
 // What is left, and behind it as many bytes as one read gives, where those left are fewer than are wanted and there is room for more.
-pub fn refill(file: i32, buffer: &mut [u8], wanted: usize, at: Window) -> Window
+pub fn refill<R: Read>(file: &mut R, buffer: &mut [u8], wanted: usize, at: Window) -> Window
     ensures { Refilled buffer.old buffer.new wanted at result }
 {
     let to = least(at.to, buffer.len());
     let from = least(at.from, to);
     let left = to - from;
-    if at.last | (wanted <= left) | (left == buffer.len()) {
+    let rests = at.last | (wanted <= left) | (left == buffer.len());
+    if rests {
         return Window {
             from,
             to,
             last: at.last,
-            failed: false,
+            failed: None,
         };
     }
     let kept = move_to_front(buffer, from, to);
-    let got = libc::read(file, &mut buffer[kept..]);
-    let n = io::count(got, &buffer[kept..]);
-    Window {
-        from: 0,
-        to: kept + n,
-        last: got == 0,
-        failed: got < 0,
+    match file.read(&mut buffer[kept..]) {
+        Ok(n) => Window {
+            from: 0,
+            to: kept + n,
+            last: n == 0,
+            failed: None,
+        },
+        Err(e) => Window {
+            from: 0,
+            to: kept,
+            last: at.last,
+            failed: Some(e),
+        },
     }
 }
 
@@ -89,4 +100,52 @@ fn least(a: usize, b: usize) -> usize
     ensures { result ≡ min a b }
 {
     if a < b { a } else { b }
+}
+
+// Says what failed, as the caller names it, a colon and the system's text for why.
+pub fn say_failed<E: Write>(errors: &mut E, what: &[u8], why: Error) {
+    let mut text = [0u8; 160];
+    let size = put_reason(&mut text, why);
+    say(errors, what);
+    say(errors, b": ");
+    say(errors, &text[..size]);
+    say(errors, b"\n");
+}
+
+// Writes bytes of which nobody hears that they could not be written.
+pub fn say<E: Write>(errors: &mut E, what: &[u8]) {
+    let _ = errors.write_all(what);
+}
+
+// The system's text for an error without its number, at the front of the buffer: how long it is.
+fn put_reason(text: &mut [u8], why: Error) -> usize
+    ensures { result ≤ length text.new }
+{
+    let room = text.len();
+    let mut rest = &mut text[..];
+    let _ = write!(rest, "{why}");
+    // What is left is never more than there was.
+    let size = room.saturating_sub(rest.len());
+    match text[..size]
+        .windows(11)
+        .position(|w| w == b" (os error ".as_slice())
+    {
+        Some(n) => n,
+        None => size,
+    }
+}
+
+// Reads until the buffer is full, the input ends or a read fails: how many bytes were put at its front.
+pub fn read_full<R: Read>(file: &mut R, buffer: &mut [u8]) -> usize
+    ensures { result ≤ length buffer.new }
+{
+    let mut done = 0;
+    while done < buffer.len() {
+        match file.read(&mut buffer[done..]) {
+            Ok(0) => return done,
+            Ok(n) => done += n,
+            Err(_) => return done,
+        }
+    }
+    done
 }

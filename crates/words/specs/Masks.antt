@@ -1,6 +1,5 @@
 -- Masks: a nibble that says something of each bay at once.
-use Rattle.std.specs.Prelude.{ℕ, ◌+◌, Bool, ◌&&◌, ◌||◌, eqb}
-use Rattle.model.specs.If.{if◌then◌else◌}
+use Rattle.std.specs.Prelude.{ℕ, ◌+◌, Bool, ◌&&◌, ◌||◌, eqb, if◌then◌else◌}
 use Rattle.model.specs.Words.{bit, on, named, bay_number}
 
 -- bit b says what holds of bay b

@@ -1,4 +1,6 @@
 // What a 16-bit word holds: single bits, nibbles, and the bays that a nibble names.
+#![tactic(auto)]
+
 ghost use Rattle.std.specs.Prelude.{◌≡◌, cond, ◌≤◌};
 ghost use Rattle.model.specs.Words as words;
 ghost use Rattle.words.specs.Masks.{four, among, one_of, first_in};

@@ -1,0 +1,18 @@
+use Prim.Native.Nat.{◌/◌, ◌^◌}
+use lib.Bits.{and_mask}
+use borrow.Author.Rules.{rules}
+use native.Mathlib.Omega.{arith}
+use Rattle.model.specs.Words as words
+use Rattle.words.proofs.OneBit.{past_end}
+use Rattle.words.proofs.nibble.Goals as goal
+
+pub returns-then-k-lt16 : goal.returns-then-k-lt16
+unfolding words.nibble
+returns-then-k-lt16 c =
+    let a = c.args in
+    let low = and_mask (a.word / 2 ^ a.k) 4 in
+    (low, rw low (omega arith))
+
+pub returns-else-k-lt16 : goal.returns-else-k-lt16
+unfolding words.nibble
+returns-else-k-lt16 c = let a = c.args in (simp (past_end 16 a.k a.word c.if-k-lt16.false (omega arith)), search rules)
