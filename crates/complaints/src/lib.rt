@@ -30,8 +30,8 @@ pub fn complain(
     field: Field,
     word: usize,
 ) -> Written
-    ensures result_value { placed result ≡ piece_spec longest_complaint (length out.old) place (complaint number line.now field word) }
-    ensures out_after { out.new ≡ piece_after longest_complaint out.old place (complaint number line.now field word) }
+    ensures value { placed result ≡ piece_spec longest_complaint (length out.old) place (complaint number line.now field word) }
+    ensures after { out.new ≡ piece_after longest_complaint out.old place (complaint number line.now field word) }
 {
     if pieces::has_room_for(out.len(), place, LONGEST) {
         let a = put_subject(out, place, number, field);
@@ -46,7 +46,7 @@ pub fn complain(
 // The name of a field: the place after it, or past the end.
 fn put_name(out: &mut [u8], at: usize, field: Field) -> usize
     ensures value { result ≡ place_after (length out.old) at (name_of field) }
-    ensures out_after { out.new ≡ text_after out.old at (name_of field) }
+    ensures after { out.new ≡ text_after out.old at (name_of field) }
 {
     match field {
         Field::Opening => pieces::text(out, at, b"event"),
@@ -69,7 +69,7 @@ fn put_name(out: &mut [u8], at: usize, field: Field) -> usize
 fn put_subject(out: &mut [u8], at: usize, number: u64, field: Field) -> usize
     requires { at + length (subject number field) ≤ length out.old }
     ensures value { result ≡ at + length (subject number field) }
-    ensures out_after { out.new ≡ put out.old at (subject number field) }
+    ensures after { out.new ≡ put out.old at (subject number field) }
 {
     let a = pieces::text(out, at, b"line ");
     let b = pieces::decimal(out, a, number);
@@ -82,7 +82,7 @@ fn put_subject(out: &mut [u8], at: usize, number: u64, field: Field) -> usize
 fn put_expected(out: &mut [u8], at: usize, field: Field) -> usize
     requires { at + length (expected field) ≤ length out.old }
     ensures value { result ≡ at + length (expected field) }
-    ensures out_after { out.new ≡ put out.old at (expected field) }
+    ensures after { out.new ≡ put out.old at (expected field) }
 {
     match field {
         Field::Opening => pieces::text(
@@ -107,7 +107,7 @@ fn put_expected(out: &mut [u8], at: usize, field: Field) -> usize
 fn put_number(out: &mut [u8], at: usize, largest: u64) -> usize
     requires { at + length (number_up_to largest) ≤ length out.old }
     ensures value { result ≡ at + length (number_up_to largest) }
-    ensures out_after { out.new ≡ put out.old at (number_up_to largest) }
+    ensures after { out.new ≡ put out.old at (number_up_to largest) }
 {
     let a = pieces::text(out, at, b"a decimal or 0x number from 0 to ");
     pieces::decimal(out, a, largest)
@@ -117,7 +117,7 @@ fn put_number(out: &mut [u8], at: usize, largest: u64) -> usize
 fn put_found(out: &mut [u8], at: usize, line: &[u8], field: Field, word: usize) -> usize
     requires { at + length (found field (get_or (words_of line.now) word [])) ≤ length out.old }
     ensures value { result ≡ at + length (found field (get_or (words_of line.now) word [])) }
-    ensures out_after { out.new ≡ put out.old at (found field (get_or (words_of line.now) word [])) }
+    ensures after { out.new ≡ put out.old at (found field (get_or (words_of line.now) word [])) }
 {
     if is_length(field) {
         return pieces::text(out, at, b"more");
@@ -169,7 +169,7 @@ fn find(line: &[u8], number: usize) -> Word
 fn put_word(out: &mut [u8], at: usize, word: &[u8]) -> usize
     requires { at + length (word_found word.now) ≤ length out.old }
     ensures value { result ≡ at + length (word_found word.now) }
-    ensures out_after { out.new ≡ put out.old at (word_found word.now) }
+    ensures after { out.new ≡ put out.old at (word_found word.now) }
 {
     if word.len() == 0 {
         return pieces::text(out, at, b"the end of the line");
@@ -185,7 +185,7 @@ fn put_word(out: &mut [u8], at: usize, word: &[u8]) -> usize
 fn put_shown(out: &mut [u8], at: usize, t: &[u8]) -> usize
     requires { at + length t.now ≤ length out.old }
     ensures value { result ≡ at + length (all_shown t.now) }
-    ensures out_after { out.new ≡ put out.old at (all_shown t.now) }
+    ensures after { out.new ≡ put out.old at (all_shown t.now) }
 {
     let mut i = 0;
     while i < t.len() {

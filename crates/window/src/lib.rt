@@ -85,7 +85,7 @@ pub fn refill<R: Read>(file: &mut R, buffer: &mut [u8], wanted: usize, at: Windo
 fn move_to_front(buffer: &mut [u8], from: usize, to: usize) -> usize
     requires { (from ≤ to) × (to ≤ length buffer.old) }
     ensures value { result ≡ to - from }
-    ensures buffer_after { buffer.new ≡ put buffer.old 0 (between buffer.old from to) }
+    ensures after { buffer.new ≡ put buffer.old 0 (between buffer.old from to) }
 {
     let mut i = 0;
     while from + i < to {

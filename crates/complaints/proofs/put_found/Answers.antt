@@ -8,8 +8,8 @@ pub returns-then-is_length : goal.returns-then-is_length
 unfolding text
 returns-then-is_length c =
     let e = sym c.is_length.ensures ∙ c.if-is_length.true in
-    let t = (there _ _ _ _ _ (rw (found_by_length, e) at c.requires) (c.text.ensures.value, c.text.ensures.out_after)) in
-    rw (found_by_length, e) (record { value = t.0; out_after = t.1 })
+    let t = (there _ _ _ _ _ (rw (found_by_length, e) at c.requires) (c.text.ensures.value, c.text.ensures.after)) in
+    rw (found_by_length, e) (record { value = t.0; after = t.1 })
 
 pub put_word-requires : goal.put_word-requires
 put_word-requires c =
@@ -19,4 +19,4 @@ put_word-requires c =
 pub returns : goal.returns
 returns c =
     let e = sym c.is_length.ensures ∙ c.if-is_length.false in
-    rw (found_by_length, e, ← c.find-w.ensures.is) (record { value = c.put_word.ensures.value; out_after = c.put_word.ensures.out_after })
+    rw (found_by_length, e, ← c.find-w.ensures.is) (record { value = c.put_word.ensures.value; after = c.put_word.ensures.after })

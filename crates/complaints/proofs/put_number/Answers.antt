@@ -7,5 +7,5 @@ use Rattle.complaints.proofs.put_number.Goals as goal
 pub returns : goal.returns
 unfolding number_up_to text
 returns c =
-    let t = next _ _ _ _ _ _ _ _ (there _ _ _ _ _ (omega arith) (c.text-a.ensures.value, c.text-a.ensures.out_after)) (c.decimal.ensures.value, c.decimal.ensures.out_after) (omega arith) in
-    record { value = t.0; out_after = t.1 }
+    let t = next _ _ _ _ _ _ _ _ (there _ _ _ _ _ (omega arith) (c.text-a.ensures.value, c.text-a.ensures.after)) (c.decimal.ensures.value, c.decimal.ensures.after) (omega arith) in
+    record { value = t.0; after = t.1 }

@@ -17,4 +17,4 @@ pub returns : goal.returns
 returns c =
     let z = c.args in
     let n = shown_long z.t.now in
-    record { value = omega arith; out_after = text_done z.out.now c.loop-i.out (all_shown z.t.now) z.at c.loop-i.i c.loop-i.invariant.1 (omega arith) }
+    record { value = omega arith; after = text_done z.out.now c.loop-i.out (all_shown z.t.now) z.at c.loop-i.i c.loop-i.invariant.1 (omega arith) }

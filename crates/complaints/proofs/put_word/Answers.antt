@@ -10,8 +10,8 @@ pub returns-then-word-eq0 : goal.returns-then-word-eq0
 unfolding text
 returns-then-word-eq0 c =
     let e = none_found c.args.word.now c.if-word-eq0.true in
-    let t = (there _ _ _ _ _ (rw e at c.requires) (c.text.ensures.value, c.text.ensures.out_after)) in
-    rw e (record { value = t.0; out_after = t.1 })
+    let t = (there _ _ _ _ _ (rw e at c.requires) (c.text.ensures.value, c.text.ensures.after)) in
+    rw e (record { value = t.0; after = t.1 })
 
 pub put_shown-a-requires : goal.put_shown-a-requires
 put_shown-a-requires c =
@@ -24,8 +24,8 @@ returns-then-word-gt-SHOWN c =
     let w = c.args.word.now in
     let n = part_long w c.if-word-gt-SHOWN.true in
     let s = shown_long (take 32 w) in
-    let t = (next _ _ _ _ _ _ _ _ (c.put_shown-a.ensures.value, c.put_shown-a.ensures.out_after) (c.text-then-word-gt-SHOWN.ensures.value, c.text-then-word-gt-SHOWN.ensures.out_after) (omega arith)) in
-    rw (part_found w c.if-word-gt-SHOWN.true) (record { value = t.0; out_after = t.1 })
+    let t = (next _ _ _ _ _ _ _ _ (c.put_shown-a.ensures.value, c.put_shown-a.ensures.after) (c.text-then-word-gt-SHOWN.ensures.value, c.text-then-word-gt-SHOWN.ensures.after) (omega arith)) in
+    rw (part_found w c.if-word-gt-SHOWN.true) (record { value = t.0; after = t.1 })
 
 pub put_shown-requires : goal.put_shown-requires
 put_shown-requires c =
@@ -33,4 +33,4 @@ put_shown-requires c =
     omega arith
 
 pub returns : goal.returns
-returns c = rw (all_found c.args.word.now c.if-word-eq0.false c.if-word-gt-SHOWN.false) (record { value = c.put_shown.ensures.value; out_after = c.put_shown.ensures.out_after })
+returns c = rw (all_found c.args.word.now c.if-word-eq0.false c.if-word-gt-SHOWN.false) (record { value = c.put_shown.ensures.value; after = c.put_shown.ensures.after })

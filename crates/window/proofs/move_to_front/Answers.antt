@@ -11,4 +11,4 @@ loop-i-preserved c = λ o r. moves_on _ _ _ o r _ _ (c.loop-i.invariant o r) c.l
 pub returns : goal.returns
 returns c =
     let t = moved _ _ _ _ _ _ _ (c.loop-i.invariant c.requires.0 c.requires.1) c.loop-i-test.false in
-    record { value = t.0; buffer_after = t.1 }
+    record { value = t.0; after = t.1 }

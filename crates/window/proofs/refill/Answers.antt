@@ -9,11 +9,11 @@ pub returns-in-Ok : goal.returns-in-Ok
 returns-in-Ok g c =
     let m = c.move_to_front-kept in
     let r : c.in-Ok.n ≤ length c.read.new.buf = c.in-Ok.ensures.bound.0 in
-    reads_on _ _ _ _ _ c.least-to.ensures c.least-from.ensures c.if-rests.false m.new.buffer m.ensures.buffer_after m.result m.ensures.value c.read.new.buf
+    reads_on _ _ _ _ _ c.least-to.ensures c.least-from.ensures c.if-rests.false m.new.buffer m.ensures.after m.result m.ensures.value c.read.new.buf
     c.in-Ok.n (omega arith) _ refl _ _
 
 pub returns-in-Err : goal.returns-in-Err
 returns-in-Err g c =
     let m = c.move_to_front-kept in
-    reads_on _ _ _ _ _ c.least-to.ensures c.least-from.ensures c.if-rests.false m.new.buffer m.ensures.buffer_after m.result m.ensures.value c.read.new.buf
+    reads_on _ _ _ _ _ c.least-to.ensures c.least-from.ensures c.if-rests.false m.new.buffer m.ensures.after m.result m.ensures.value c.read.new.buf
     0 (omega arith) _ (omega arith) _ _
