@@ -9,7 +9,7 @@ use native.Mathlib.Omega.{arith}
 use Rattle.model.specs.declared.Setup.{Setup}
 use Rattle.model.specs.declared.Event.{Event}
 use Rattle.model.specs.declared.Machine.{Machine}
-use Rattle.model.specs.Board.{no_output, allows, allows_to_wake}
+use Rattle.model.specs.Board.{allows, allows_to_wake}
 use Rattle.model.specs.Reads.{ready, charging, waking, output}
 use Rattle.model.specs.Facts.{Past, ac_present, connected, Eight, requested, eight_hold, Waking, wake_holds, output_told}
 use Rattle.model.specs.Promises.{OutputIsTold}
