@@ -1,5 +1,4 @@
 """Instructions, times and memory of a program."""
-import os
 import pathlib
 import re
 import shutil
@@ -8,34 +7,15 @@ import sys
 import time
 
 import logs
-from programs import IS_X86
-
-TRACE = ('-one-insn-per-tb', '-d', 'exec,nochain', '-D')
 
 
 def instructions(program, arguments, log, folder):
     """x86 instructions of one run, start-up and end included: exact, but by perf, which may count a few of the system's."""
-    if not IS_X86:
-        return traced(program, arguments, log, folder)
     if shutil.which('valgrind'):
         return by_valgrind(program, arguments, log)
     if shutil.which('perf'):
         return by_perf(program, arguments, log, folder)
     sys.exit('bench: nothing to count instructions with: install the Debian package valgrind, or linux-perf')
-
-
-def traced(program, arguments, log, folder):
-    """By the emulator: a line an instruction, counted as they come, since a file of them would be large."""
-    lines = folder / 'trace'
-    os.mkfifo(lines)
-    with log.open('rb') as bytes_in:
-        run = subprocess.Popen(program.command(*arguments, emulator_options=(*TRACE, str(lines))), stdin=bytes_in,
-                               stdout=subprocess.DEVNULL)
-    counted = subprocess.run(['grep', '-c', '^Trace', str(lines)], stdout=subprocess.PIPE, text=True)
-    lines.unlink()
-    if run.wait() != 0:
-        sys.exit('bench: %s failed while it was counted' % program.path)
-    return int(counted.stdout)
 
 
 def by_valgrind(program, arguments, log):
@@ -112,11 +92,10 @@ def growth(program, records):
 
 def size_of_step(objects):
     """Rows (what, bytes) about one `step` of ours called by itself, as the vectors call it: its machine code, and the deepest stack."""
-    prefix = '' if IS_X86 else 'x86_64-linux-gnu-'
-    if shutil.which(prefix + 'objdump') is None:
+    if shutil.which('objdump') is None:
         return [['a step of ours: not measured without the Debian package binutils', '-']]
     sizes = {}
-    stack = deepest(prefix + 'objdump', objects / 'vectors.o', 'shelf::step', sizes)
+    stack = deepest('objdump', objects / 'vectors.o', 'shelf::step', sizes)
     if stack is None:
         return [['a step of ours: not there as a function that calls our own alone', '-']]
     what = 'machine code of one step of ours' + (', with what it calls: ' + ', '.join(sorted(set(sizes) - {'shelf::step'})) if len(sizes) > 1 else '')
