@@ -1,8 +1,7 @@
 // The types that every other crate speaks of: a setup, a machine, its events and its answers.
-
-// The largest value of a request, and the value that a request of 65535 gives.
 #![tactic(auto)]
 
+// The largest value of a request, and the value that a request of 65535 gives.
 #[derive(Clone, Copy)]
 pub struct Limit {
     pub largest: u16,
