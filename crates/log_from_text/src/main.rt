@@ -2,5 +2,10 @@
 #![tactic(auto)]
 
 fn main(rt: HostRuntime) {
-    scribe::record(&mut rt.stdin(), &mut rt.stdout(), rt.stderr());
+    scribe::record(
+        &mut rt.stdin(),
+        &mut rt.stdout(),
+        &mut rt.stderr(),
+        &mut rt.stderr(),
+    );
 }

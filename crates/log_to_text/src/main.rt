@@ -2,5 +2,10 @@
 #![tactic(auto)]
 
 fn main(rt: HostRuntime) {
-    scribe::transcribe(&mut rt.stdin(), &mut rt.stdout(), rt.stderr());
+    scribe::transcribe(
+        &mut rt.stdin(),
+        &mut rt.stdout(),
+        &mut rt.stderr(),
+        &mut rt.stderr(),
+    );
 }

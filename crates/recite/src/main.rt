@@ -4,8 +4,7 @@
 #![tactic(auto)]
 
 use std::fs::File;
-use std::io::Write;
-use window::say_failed;
+use window::{say, say_failed};
 
 // The log that is made of a text.
 const MADE: &str = "made.log";
@@ -95,7 +94,7 @@ fn of_log(rt: HostRuntime, name: &str) {
 // The name of a file, in front of what comes of it.
 fn show(rt: HostRuntime, name: &str) {
     let mut out = rt.stdout();
-    let _ = out.write_all(b"== ");
-    let _ = out.write_all(name.as_bytes());
-    let _ = out.write_all(b"\n");
+    say(&mut out, b"== ");
+    say(&mut out, name.as_bytes());
+    say(&mut out, b"\n");
 }

@@ -5,8 +5,7 @@
 
 use model::Setup;
 use std::fs::File;
-use std::io::Write;
-use window::say_failed;
+use window::{say, say_failed};
 
 fn main(rt: HostRuntime) {
     let setup = shelf::program_setup();
@@ -29,8 +28,8 @@ fn main(rt: HostRuntime) {
 fn show(rt: HostRuntime, name: &str, setup: Setup) {
     let mut listing = rt.stdout();
     let mut errors = rt.stderr();
-    let _ = listing.write_all(name.as_bytes());
-    let _ = listing.write_all(b"\n");
+    say(&mut listing, name.as_bytes());
+    say(&mut listing, b"\n");
     let mut log = match File::open(&rt, name) {
         Ok(log) => log,
         Err(why) => {

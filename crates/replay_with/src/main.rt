@@ -5,8 +5,8 @@
 use figures::{Figure, figure_in, no_figure};
 use model::{Limit, Output, Setup};
 use std::env::FillError;
-use std::io::Write;
 use std::rt::Env;
+use window::say;
 
 // For a number above 65535 a word stands that is refused in its place: 0, but 65535 for the wake current, which may be 0.
 const NONE: u16 = 0;
@@ -82,9 +82,10 @@ fn argument(rt: HostRuntime, i: usize, name: &[u8], beyond: u16) -> Figure {
 }
 
 fn complain(rt: HostRuntime, name: &[u8], what: &[u8]) {
-    say(rt, b"replay_with: ");
-    say(rt, name);
-    say(rt, what);
+    let mut errors = rt.stderr();
+    say(&mut errors, b"replay_with: ");
+    say(&mut errors, name);
+    say(&mut errors, what);
 }
 
 // No argument follows the ninth.
@@ -93,7 +94,7 @@ fn are_nine(rt: HostRuntime) -> bool {
     match rt.arg(10, &mut text) {
         Err(FillError::NotPresent) => true,
         _ => {
-            say(rt, b"replay_with: more than nine arguments\n");
+            say(&mut rt.stderr(), b"replay_with: more than nine arguments\n");
             false
         }
     }
@@ -101,11 +102,7 @@ fn are_nine(rt: HostRuntime) -> bool {
 
 fn say_usage(rt: HostRuntime) {
     say(
-        rt,
+        &mut rt.stderr(),
         b"usage: replay_with BAYS LARGEST_MA SAFE_MA LARGEST_MV SAFE_MV LOW_MV RESTART_MV WAKE_MA WAKE_MV < LOG\n",
     );
-}
-
-fn say(rt: HostRuntime, what: &[u8]) {
-    let _ = rt.stderr().write_all(what);
 }

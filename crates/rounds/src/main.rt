@@ -6,8 +6,8 @@
 use figures::{Figure, figure_in};
 use layout::{Found, Written};
 use model::{Answer, Machine};
-use std::io::Write;
 use std::rt::Env;
+use window::{read_full, say};
 
 // What the rounds came to: the machine, how many records, and the sum.
 #[derive(Clone, Copy)]
@@ -25,13 +25,11 @@ fn main(rt: HostRuntime) {
     let is_stepping = letter == b's';
     let count = count_given(rt);
     if !(count.is_good & (is_stepping | (letter == b'r'))) {
-        let _ = rt
-            .stderr()
-            .write_all(b"usage: rounds read|step COUNT < LOG\n");
+        say(&mut rt.stderr(), b"usage: rounds read|step COUNT < LOG\n");
         return;
     }
     let mut log = [0u8; 65536];
-    let size = window::read_full(&mut rt.stdin(), &mut log);
+    let size = read_full(&mut rt.stdin(), &mut log);
     print(rt, all_rounds(&log[0..size], count.word, is_stepping));
 }
 
@@ -122,6 +120,6 @@ fn print(rt: HostRuntime, total: Total) {
         return;
     };
     if end <= 4096 {
-        let _ = rt.stdout().write_all(&out[0..end]);
+        say(&mut rt.stdout(), &out[0..end]);
     }
 }

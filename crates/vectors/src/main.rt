@@ -12,17 +12,15 @@ mod same;
 ghost use Rattle.std.specs.Prelude.{◌≤◌, length};
 
 use model::Machine;
-use std::io::Write;
+use window::{read_full, say};
 
 fn main(rt: HostRuntime) {
     let mut table = [0u8; 65536];
-    let length = window::read_full(&mut rt.stdin(), &mut table);
+    let length = read_full(&mut rt.stdin(), &mut table);
     if length < 65536 {
         tell_all(rt, &table[..length]);
     } else {
-        let _ = rt
-            .stderr()
-            .write_all(b"the table is longer than 65535 bytes\n");
+        say(&mut rt.stderr(), b"the table is longer than 65535 bytes\n");
     }
 }
 

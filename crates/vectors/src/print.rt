@@ -2,11 +2,12 @@
 use model::Answer;
 use shelf::Outputs;
 use std::io::Write;
+use window::say;
 
 const DIGITS: [u8; 16] = *b"0123456789ABCDEF";
 
 pub fn text(rt: HostRuntime, t: &[u8]) {
-    let _ = rt.stdout().write_all(t);
+    say(&mut rt.stdout(), t);
 }
 
 // What stands between two parts of a row.

@@ -1,12 +1,12 @@
-// A window on an open file: what is at hand of it stands in a buffer that the caller lends, and is refilled, so that a file of any length
-// takes the same memory.
+// A window on what is read: what is at hand of it stands in a buffer that the caller lends, and is refilled, so that a file of any length
+// takes the same memory. Beside it what programs need that read and write: to fill a buffer, and to say what failed.
 #![tactic(auto)]
 
 ghost use Rattle.std.specs.Prelude.{◌≡◌, false, ◌-◌, ◌≤◌, min, length, None};
 ghost use Rattle.layout.specs.Writing.{put};
 ghost use Rattle.window.specs.Windows.{between, behind, Refilled};
 
-use std::io::{Error, Read, Write};
+use std::io::{Error, ErrorKind, Read, Write};
 
 // What is at hand: the bytes of the buffer from one place up to another. last says that no more will come, failed why the file could not be
 // read.
@@ -102,8 +102,12 @@ fn least(a: usize, b: usize) -> usize
     if a < b { a } else { b }
 }
 
-// Says what failed, as the caller names it, a colon and the system's text for why.
+// Says what failed, as the caller names it, a colon and the library's text for why, which is the system's where a call of it failed. Of a pipe that has lost its reader nothing is said:
+// who stops reading, as `head` does, has what was wanted.
 pub fn say_failed<E: Write>(errors: &mut E, what: &[u8], why: Error) {
+    if why.kind() == ErrorKind::BrokenPipe {
+        return;
+    }
     let mut text = [0u8; 160];
     let size = put_reason(&mut text, why);
     say(errors, what);
@@ -148,4 +152,41 @@ pub fn read_full<R: Read>(file: &mut R, buffer: &mut [u8]) -> usize
         }
     }
     done
+}
+
+#[cfg(test)]
+mod tests {
+    use super::*;
+
+    // The reasons are Linux's, without the number that the library puts behind them.
+    #[test]
+    fn says_what_failed_and_why(rt: HostRuntime) {
+        for (code, wanted) in [
+            (21, b"reading the log: Is a directory\n".as_slice()),
+            (28, b"reading the log: No space left on device\n".as_slice()),
+            (32, b"".as_slice()),
+        ] {
+            let mut text = [0u8; 80];
+            let mut rest = &mut text[..];
+            say_failed(
+                &mut rest,
+                b"reading the log",
+                Error::from_raw_os_error(code),
+            );
+            let size = 80usize.saturating_sub(rest.len());
+            assert!(rt; text[..size] == wanted[..], "at {code}");
+        }
+    }
+
+    // A buffer is filled as far as there is something to read, and no further.
+    #[test]
+    fn reads_until_full_or_at_the_end(rt: HostRuntime) {
+        for (size, wanted) in [(3, 3), (5, 5), (8, 5)] {
+            let mut text = b"a log".as_slice();
+            let mut buffer = [0u8; 8];
+            let done = read_full(&mut text, &mut buffer[..size]);
+            assert_eq!(rt; done, wanted, "of {size}");
+            assert!(rt; buffer[..wanted] == b"a log"[..wanted], "of {size}");
+        }
+    }
 }
