@@ -3,7 +3,7 @@
 // event can touch what it settles by. The promises under "What a run makes needless" say when this is the step itself.
 #![tactic(auto)]
 
-ghost use Rattle.std.specs.Prelude.{◌≡◌, ◌&&◌};
+ghost use Rattle.std.specs.Prelude.{◌≡◌};
 ghost use Rattle.steady.specs.Following as following;
 
 use actions::Action;

@@ -1,5 +1,6 @@
-// A window on what is read: what is at hand of it stands in a buffer that the caller lends, and is refilled, so that a file of any length
-// takes the same memory. Beside it what programs need that read and write: to fill a buffer, and to say what failed.
+// A window on what is read: what is at hand of it stands in a buffer that the caller lends, and is refilled, so that a
+// file of any length takes the same memory. Beside it what programs need that read and write: to fill a buffer, and to
+// say what failed.
 #![tactic(auto)]
 
 ghost use Rattle.std.specs.Prelude.{◌≡◌, false, ◌-◌, ◌≤◌, min, length, None};
@@ -8,8 +9,8 @@ ghost use Rattle.window.specs.Windows.{between, behind, Refilled};
 
 use std::io::{Error, ErrorKind, Read, Write};
 
-// What is at hand: the bytes of the buffer from one place up to another. last says that no more will come, failed why the file could not be
-// read.
+// What is at hand: the bytes of the buffer from one place up to another. last says that no more will come, failed why
+// the file could not be read.
 #[derive(Clone, Copy)]
 pub struct Window {
     pub from: usize,
@@ -102,8 +103,9 @@ fn least(a: usize, b: usize) -> usize
     if a < b { a } else { b }
 }
 
-// Says what failed, as the caller names it, a colon and the library's text for why, which is the system's where a call of it failed. Of a pipe that has lost its reader nothing is said:
-// who stops reading, as `head` does, has what was wanted.
+// Says what failed, as the caller names it, a colon and the library's text for why, which is the system's where a call of
+// the system failed. Of a pipe that has lost its reader nothing is said: who stops reading, as `head` does, has what was
+// wanted.
 pub fn say_failed<E: Write>(errors: &mut E, what: &[u8], why: Error) {
     if why.kind() == ErrorKind::BrokenPipe {
         return;
@@ -121,7 +123,7 @@ pub fn say<E: Write>(errors: &mut E, what: &[u8]) {
     let _ = errors.write_all(what);
 }
 
-// The system's text for an error without its number, at the front of the buffer: how long it is.
+// The library's text for an error without the system's number, at the front of the buffer: how long it is.
 fn put_reason(text: &mut [u8], why: Error) -> usize
     ensures { result ≤ length text.new }
 {
