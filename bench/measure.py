@@ -88,32 +88,3 @@ def growth(program, records):
     if run.wait() != 0:
         sys.exit('bench: %s failed on %d records' % (program.path, records))
     return time.perf_counter() - start, memory
-
-
-def size_of_step(objects):
-    """Rows (what, bytes) about one `step` of ours called by itself, as the vectors call it: its machine code, and the deepest stack."""
-    if shutil.which('objdump') is None:
-        return [['a step of ours: not measured without the Debian package binutils', '-']]
-    sizes = {}
-    stack = deepest('objdump', objects / 'vectors.o', 'shelf::step', sizes)
-    if stack is None:
-        return [['a step of ours: not there as a function that calls our own alone', '-']]
-    what = 'machine code of one step of ours' + (', with what it calls: ' + ', '.join(sorted(set(sizes) - {'shelf::step'})) if len(sizes) > 1 else '')
-    return [[what, sum(sizes.values())], ['its stack: return address, saved registers and what it keeps', stack]]
-
-
-def deepest(objdump, module, name, sizes):
-    """The stack of a function of ours with the deepest of those that it calls, or None; `sizes` gets the bytes of each one's code."""
-    words = [objdump, '-h', '-d', '-r', '--no-show-raw-insn', '-M', 'intel', '--section=.text.' + name, str(module)]
-    code = subprocess.run(words, stdout=subprocess.PIPE, stderr=subprocess.DEVNULL, text=True).stdout
-    size = re.search(r'\.text\.%s +([0-9a-f]+)' % re.escape(name), code)
-    called = re.findall(r'\tcall .*\n.*R_X86_64_PLT32\s+\.text\.(\S+)-0x4$', code, re.MULTILINE)
-    if size is None or len(called) != len(re.findall(r'\tcall ', code)):
-        return None
-    sizes[name] = int(size.group(1), 16)
-    pushes, kept = re.search(r'<%s>:\n((?:.*\tpush .*\n)*)(?:.*\tsub +rsp,0x([0-9a-f]+))?' % re.escape(name), code).groups()
-    below = max([int(n, 16) for n in re.findall(r'\[rsp-0x([0-9a-f]+)\]', code)], default=0)
-    callees = [deepest(objdump, module, other, sizes) for other in sorted(set(called))]
-    if None in callees:
-        return None
-    return 8 * (pushes.count('push') + 1) + int(kept or '0', 16) + max([below] + callees)

@@ -184,7 +184,7 @@ mod tests {
     #[test]
     fn reads_until_full_or_at_the_end(rt: HostRuntime) {
         for (size, wanted) in [(3, 3), (5, 5), (8, 5)] {
-            let mut text = b"a log".as_slice();
+            let mut text = b"a ".as_slice().chain(b"log".as_slice());
             let mut buffer = [0u8; 8];
             let done = read_full(&mut text, &mut buffer[..size]);
             assert_eq!(rt; done, wanted, "of {size}");
