@@ -4,24 +4,13 @@ use mathlib.Core.Path.{◌≡◌, refl, sym, ap, ◌∙◌}
 use mathlib.Core.Bool.{Bool, true, false, cond}
 use Rattle.model.specs.declared.Machine.{Machine}
 use Rattle.model.specs.declared.Event.{Event}
-use Rattle.model.specs.declared.Stepped.{Stepped}
-use Rattle.model.specs.Numbers.{done, word, said}
-use Rattle.model.specs.Settling.{settle}
+use Rattle.model.specs.Numbers.{done, word}
 use Rattle.model.specs.Reads.{is_read, word_shown}
 use Rattle.model.specs.Refusals.{bad_machine, fault, refusal}
-use Rattle.model.specs.Step.{told, reply, outcome, step_spec}
+use Rattle.model.specs.Step.{reply, outcome, step_spec}
 use Rattle.actions.specs.Meaning.{unsettled, meant, meant_by, accepts, finished}
 use Rattle.actions.specs.Decision.{decided}
 use Rattle.actions.proofs.Decides.{decides}
-
-module _ (t : Stepped) where
-  pub settles : accepts (said t.answer) ≡ true → told (record { answer = t.answer; machine = settle t.machine }) ≡ finished (told t)
-  unfolding told finished
-  settles q = sym (rw q)
-
-  pub stands : accepts (said t.answer) ≡ false → told t ≡ finished (told t)
-  unfolding told finished
-  stands q = sym (rw q)
 
 -- an accepted event's answer is no refusal
 pub replies : (m : Machine) (e : Event) → accepts (reply m e) ≡ true

@@ -1,5 +1,4 @@
 -- In the order in which they build on each other.
-pub mod Keys
 pub mod Faults
 pub mod Senders
 pub mod Decides

@@ -19,6 +19,7 @@ use Rattle.model.specs.Refusals.{supports, unsupported_bay, fault}
 use Rattle.model.proofs.Bools.{choose}
 use Rattle.model.proofs.Computes.{computes}
 use Rattle.machine.specs.ByNumber.{bay_in}
+use Rattle.actions.specs.declared.Sender.TheVariants.{HostWrites, HostReads, ChargeBay, OtherBay}
 use Rattle.actions.specs.declared.Action.{Action}
 use Rattle.actions.specs.declared.Action.TheVariants.{SetCurrent, SetVoltage, SetAlarm, Refuse}
 use Rattle.actions.specs.Meaning.{done_with, refused_with, unsettled, meant, meant_by}
@@ -33,7 +34,7 @@ no_such m e k f = simp (k, f)
 
 module _ (m : Machine) (a c w : ℕ) where
   abbrev Written : Type 0
-  Written = meant_by m (chosen 0 a c w) ≡ meant m (HostWrite a c w)
+  Written = meant_by m (chosen HostWrites a c w) ≡ meant m (HostWrite a c w)
 
   pub host_writes : Written
   unfolding meant_by chosen kind_of by_address host_writes_charger host_writes_selector bay_writes from_bay
@@ -58,7 +59,7 @@ module _ (m : Machine) (a c w : ℕ) where
 
 module _ (m : Machine) (a c : ℕ) where
   abbrev Shown : Type 0
-  Shown = meant_by m (chosen 1 a c 0) ≡ meant m (HostRead a c)
+  Shown = meant_by m (chosen HostReads a c 0) ≡ meant m (HostRead a c)
 
   pub host_reads : Shown
   unfolding meant_by chosen kind_of by_address host_reads_charger host_reads_selector from_bay
@@ -92,29 +93,29 @@ module _ (m : Machine) (b c w : ℕ) where
       ≡ cond (not (supports m.setup b)) 2 (cond (not (bay_at m.bays b).present || not (names m.selector.charge b)) 4 0) →
       reply m (BayWord b c w) ≡ done →
       meant_by m a ≡ done_with (act m (BayWord b c w)) →
-      chosen 2 0x12 c w ≡ a →
-      chosen 3 0x12 c w ≡ Refuse NotChargingBay →
+      chosen ChargeBay 0x12 c w ≡ a →
+      chosen OtherBay 0x12 c w ≡ Refuse NotChargingBay →
       Sent
   unfolding decision.word_from_bay decision.sender_at unsettled meant_by bay_in
   known a f r q heard other =
       sym (by_fault m (BayWord b c w) _ f ∙ go (supports m.setup b) (ltb b 4) (supports_small m.setup b) (bay_at m.bays b) (names m.selector.charge b))
     where
-      sent : (p n : Bool) → unsettled (cond (not p || not n) 4 0) m (BayWord b c w) ≡ meant_by m (chosen (cond (p && n) 2 3) 0x12 c w)
+      sent : (p n : Bool) → unsettled (cond (not p || not n) 4 0) m (BayWord b c w) ≡ meant_by m (chosen (cond (p && n) ChargeBay OtherBay) 0x12 c w)
       sent true true = rw (heard, r) (sym q)
       sent true false = rw other
       sent false n = rw other
 
       go : (s t : Bool) → (s ≡ true → t ≡ true) → (x : Bay) (n : Bool) →
           unsettled (cond (not s) 2 (cond (not x.present || not n) 4 0)) m (BayWord b c w)
-          ≡ meant_by m (cond s (chosen (cond ((cond t x empty_bay).present && n) 2 3) 0x12 c w) (Refuse UnsupportedBay))
+          ≡ meant_by m (cond s (chosen (cond ((cond t x empty_bay).present && n) ChargeBay OtherBay) 0x12 c w) (Refuse UnsupportedBay))
       go true true h x n = sent x.present n
       go true false h x n = absurd (false≢true (h refl))
       go false t h x n = refl
 
   -- a word that does not
-  unknown : bay_writes c ≡ no_such_word → chosen 2 0x12 c w ≡ Refuse NoSuchWord → chosen 3 0x12 c w ≡ Refuse NoSuchWord → Sent
+  unknown : bay_writes c ≡ no_such_word → chosen ChargeBay 0x12 c w ≡ Refuse NoSuchWord → chosen OtherBay 0x12 c w ≡ Refuse NoSuchWord → Sent
   unfolding decision.word_from_bay decision.sender_at meant unsettled meant_by tests
-  unknown k heard other = rw (k, choose (λ s. chosen s 0x12 c w ≡ Refuse NoSuchWord) _ 2 3 (λ _. heard) (λ _. other)) (go (supports m.setup b))
+  unknown k heard other = rw (k, choose (λ s. chosen s 0x12 c w ≡ Refuse NoSuchWord) _ ChargeBay OtherBay (λ _. heard) (λ _. other)) (go (supports m.setup b))
     where
       go : (s : Bool) → meant_by m (cond s (Refuse NoSuchWord) (Refuse UnsupportedBay)) ≡ unsettled (cond (not s) 2 3) m (BayWord b c w)
       go true = refl

@@ -7,12 +7,12 @@ ghost use Rattle.model.specs.declared.Event.TheVariants as event;
 ghost use Rattle.model.specs.Numbers.{said};
 ghost use Rattle.model.specs.Step.{told};
 ghost use Rattle.actions.specs.Meaning.{meant, meant_by, finished, accepts};
-ghost use Rattle.actions.specs.Decision.{key_of, chosen, sender_at, word_from_bay, action_at_bay, decided};
+ghost use Rattle.actions.specs.Decision.{chosen, sender_at, word_from_bay, action_at_bay, decided};
 
 use model::{Answer, Event, Machine, Refusal, Stepped};
 
 // One action for each register and each thing that can happen, with what it needs; or the refusal.
-#[derive(Clone, Copy)]
+#[derive(Clone, Copy, Debug, PartialEq, Eq)]
 pub enum Action {
     SetCurrent(u16),
     SetVoltage(u16),
@@ -35,68 +35,58 @@ pub enum Action {
 }
 
 // Who sends a word: a host that writes, a host that reads, the CHARGE bay while it holds a pack, any other bay.
-const HOST_WRITES: u8 = 0;
-
-const HOST_READS: u8 = 1;
-
-const CHARGE_BAY: u8 = 2;
-
-const OTHER_BAY: u8 = 3;
+#[derive(Clone, Copy, Debug, PartialEq, Eq)]
+enum Sender {
+    HostWrites,
+    HostReads,
+    ChargeBay,
+    OtherBay,
+}
 
 // The charger's address, to which bays send their words.
 const CHARGER: u8 = 0x12;
 
-// Sender, address and code in one number.
-#[inline(always)]
-fn key_of(sender: u8, address: u8, code: u8) -> u32
-    ensures { result ≡ key_of sender address code }
-{
-    (sender as u32) * 65536 + (address as u32) * 256 + (code as u32)
-}
-
 // The one decision over sender, address and code: the register's action, or refusal 3. A word that exists gets refusal 4 from
 // a bay that is not the CHARGE bay, or holds no pack.
 #[inline(always)]
-fn choose(sender: u8, address: u8, code: u8, word: u16) -> Action
+#[tactic(auto, unfolding(crate::specs::Decision::chosen))]
+fn choose(sender: Sender, address: u8, code: u8, word: u16) -> Action
     ensures { result ≡ chosen sender address code word }
 {
-    match key_of(sender, address, code) {
-        0x01212 => Action::SetMode(word),
-        0x01214 => Action::SetCurrent(word),
-        0x01215 => Action::SetVoltage(word),
-        0x01216 => Action::SetAlarm(word),
-        0x01401 => Action::SetState(word),
-        0x01402 => Action::SetPresets(word),
-        0x11211 => Action::ReadSpec,
-        0x11213 => Action::ReadStatus,
-        0x11401 => Action::ReadState,
-        0x11402 => Action::ReadPresets,
-        0x11404 => Action::ReadInfo,
-        0x21214 => Action::SetCurrent(word),
-        0x21215 => Action::SetVoltage(word),
-        0x21216 => Action::SetAlarm(word),
-        0x31214 => Action::Refuse(Refusal::NotChargingBay),
-        0x31215 => Action::Refuse(Refusal::NotChargingBay),
-        0x31216 => Action::Refuse(Refusal::NotChargingBay),
+    match (sender, address, code) {
+        (Sender::HostWrites, 0x12, 0x12) => Action::SetMode(word),
+        (Sender::HostWrites | Sender::ChargeBay, 0x12, 0x14) => Action::SetCurrent(word),
+        (Sender::HostWrites | Sender::ChargeBay, 0x12, 0x15) => Action::SetVoltage(word),
+        (Sender::HostWrites | Sender::ChargeBay, 0x12, 0x16) => Action::SetAlarm(word),
+        (Sender::HostWrites, 0x14, 0x01) => Action::SetState(word),
+        (Sender::HostWrites, 0x14, 0x02) => Action::SetPresets(word),
+        (Sender::HostReads, 0x12, 0x11) => Action::ReadSpec,
+        (Sender::HostReads, 0x12, 0x13) => Action::ReadStatus,
+        (Sender::HostReads, 0x14, 0x01) => Action::ReadState,
+        (Sender::HostReads, 0x14, 0x02) => Action::ReadPresets,
+        (Sender::HostReads, 0x14, 0x04) => Action::ReadInfo,
+        (Sender::OtherBay, 0x12, 0x14 | 0x15 | 0x16) => Action::Refuse(Refusal::NotChargingBay),
         _ => Action::Refuse(Refusal::NoSuchWord),
     }
 }
 
 // A bay as a sender: whether it is the CHARGE bay and holds a pack.
 #[inline(always)]
-fn sender_of(m: Machine, b: u8) -> u8
+#[tactic(auto, unfolding(crate::specs::Decision::sender_at))]
+fn sender_of(m: Machine, b: u8) -> Sender
     ensures { result ≡ sender_at m b }
 {
     let bays = m.bays;
     if machine::is_present(bays, b) & words::names(m.selector.charge, b) {
-        CHARGE_BAY
+        Sender::ChargeBay
     } else {
-        OTHER_BAY
+        Sender::OtherBay
     }
 }
 
 // A bay's word: 2 where the bay is not supported, then the decision.
 #[inline(always)]
+#[tactic(auto, unfolding(crate::specs::Decision::word_from_bay))]
 fn from_bay(m: Machine, b: u8, code: u8, word: u16) -> Action
     ensures { result ≡ word_from_bay m b code word }
 {
@@ -107,21 +97,20 @@ fn from_bay(m: Machine, b: u8, code: u8, word: u16) -> Action
     }
 }
 
-// An action at a bay that has to hold a pack, or has to be empty: 2 where the bay is not supported, then 9.
+// An action at a bay that has to hold a pack, or has to be empty: 2 where the bay is not supported, then 9. Which is a
+// truth value: one comparison, where two functions would differ in a `not`.
 #[inline(always)]
+#[tactic(auto, unfolding(crate::specs::Decision::action_at_bay))]
 fn at_bay(m: Machine, b: u8, full: bool, then: Action) -> Action
     ensures { result ≡ action_at_bay m b full then }
 {
     let bays = m.bays;
-    let present = machine::is_present(bays, b);
-    if machine::is_supported(m.setup, b) {
-        if words::choose_bool(full, present, !present) {
-            then
-        } else {
-            Action::Refuse(Refusal::WrongPresence)
-        }
-    } else {
+    if !machine::is_supported(m.setup, b) {
         Action::Refuse(Refusal::UnsupportedBay)
+    } else if machine::is_present(bays, b) != full {
+        Action::Refuse(Refusal::WrongPresence)
+    } else {
+        then
     }
 }
 
@@ -135,8 +124,8 @@ pub fn decide(m: Machine, e: Event) -> Action
             address,
             code,
             word,
-        } => choose(HOST_WRITES, address, code, word),
-        Event::HostRead { address, code } => choose(HOST_READS, address, code, 0),
+        } => choose(Sender::HostWrites, address, code, word),
+        Event::HostRead { address, code } => choose(Sender::HostReads, address, code, 0),
         Event::BayWord { bay, code, word } => from_bay(m, bay, code, word),
         Event::Insertion { bay } => at_bay(m, bay, false, Action::Insert(bay)),
         Event::Removal { bay } => at_bay(m, bay, true, Action::Remove(bay)),
@@ -149,61 +138,62 @@ pub fn decide(m: Machine, e: Event) -> Action
     }
 }
 
-// Done, beside the machine.
+// Done, beside the machine. The three answers are a line each: one function of answer and machine would be the struct
+// itself.
 #[inline(always)]
-fn done(m: Machine) -> Stepped
-    ensures { result ≡ record { answer = answer.Done; machine = m } }
+fn done(machine: Machine) -> Stepped
+    ensures { result ≡ record { answer = answer.Done; machine = machine } }
 {
     Stepped {
         answer: Answer::Done,
-        machine: m,
+        machine,
     }
 }
 
 // A word that was read, beside the machine.
 #[inline(always)]
-fn show(m: Machine, word: u16) -> Stepped
-    ensures { result ≡ record { answer = answer.Word word; machine = m } }
+fn show(machine: Machine, word: u16) -> Stepped
+    ensures { result ≡ record { answer = answer.Word word; machine = machine } }
 {
     Stepped {
         answer: Answer::Word(word),
-        machine: m,
+        machine,
     }
 }
 
 // A refusal leaves the machine as it stood.
 #[inline(always)]
-pub fn refuse(m: Machine, why: Refusal) -> Stepped
-    ensures { result ≡ record { answer = answer.Refused why; machine = m } }
+pub fn refuse(machine: Machine, why: Refusal) -> Stepped
+    ensures { result ≡ record { answer = answer.Refused why; machine = machine } }
 {
     Stepped {
         answer: Answer::Refused(why),
-        machine: m,
+        machine,
     }
 }
 
 // A SelectorState word: 5, 6, 7, 8, or its action.
 #[inline(always)]
+#[tactic(auto, unfolding(model::specs::Step::told), using(crate::proofs::Faults::on_state))]
 fn write_state(m: Machine, word: u16) -> Stepped
     ensures { told result ≡ meant m (event.HostWrite 0x14 0x01 word) }
 {
-    if selector::is_state_formed(m.setup, word) {
-        if selector::is_smb_elsewhere(word) {
-            refuse(m, Refusal::SmbElsewhere)
-        } else if selector::is_not_usable(m, word) {
-            refuse(m, Refusal::NotUsable)
-        } else if selector::is_same_bay(m, word) {
-            refuse(m, Refusal::SameBay)
-        } else {
-            done(selector::set_state(m, word))
-        }
-    } else {
+    if !selector::is_state_formed(m.setup, word) {
         refuse(m, Refusal::BadNibble)
+    } else if selector::is_smb_elsewhere(word) {
+        refuse(m, Refusal::SmbElsewhere)
+    } else if selector::is_not_usable(m, word) {
+        refuse(m, Refusal::NotUsable)
+    } else if selector::is_same_bay(m, word) {
+        refuse(m, Refusal::SameBay)
+    } else {
+        done(selector::set_state(m, word))
     }
 }
 
 // A SelectorPresets word: 5, or its action.
 #[inline(always)]
+#[tactic(auto, unfolding(model::specs::Step::told), using(crate::proofs::Faults::on_presets))]
 fn write_presets(m: Machine, word: u16) -> Stepped
     ensures { told result ≡ meant m (event.HostWrite 0x14 0x02 word) }
 {
@@ -216,6 +206,7 @@ fn write_presets(m: Machine, word: u16) -> Stepped
 
 // The action, before the machine settles.
 #[inline(always)]
+#[tactic(auto, unfolding(model::specs::Step::told, crate::specs::Meaning::meant_by))]
 pub fn perform(m: Machine, a: Action) -> Stepped
     ensures { told result ≡ meant_by m a }
 {
@@ -246,24 +237,19 @@ pub fn perform(m: Machine, a: Action) -> Stepped
 pub fn is_accepted(a: Answer) -> bool
     ensures { result ≡ accepts (said a) }
 {
-    match a {
-        Answer::Done => true,
-        Answer::Word(_) => true,
-        Answer::Refused(_) => false,
-    }
+    !matches!(a, Answer::Refused(_))
 }
 
 // An accepted event lets the machine settle; a refused one leaves it as it stood.
 #[inline(always)]
+#[tactic(auto, unfolding(model::specs::Step::told, crate::specs::Meaning::finished))]
 pub fn finish(t: Stepped) -> Stepped
     ensures { told result ≡ finished (told t) }
 {
-    let a = t.answer;
-    if is_accepted(a) {
-        let n = selector::settle(t.machine);
+    if is_accepted(t.answer) {
         Stepped {
-            answer: a,
-            machine: n,
+            machine: selector::settle(t.machine),
+            ..t
         }
     } else {
         t

@@ -1,7 +1,6 @@
 -- What happens at a bay, and to AC: the model's rules read by event, as proofs/ByEvent.antt shows.
-use Rattle.std.specs.Prelude.{ℕ, Bool, true, false, not, ◌&&◌, ◌||◌, List, ltb, leb, eqb, if◌then◌else◌}
+use Rattle.std.specs.Prelude.{None, Some, ℕ, Bool, true, false, not, ◌&&◌, ◌||◌, List, ltb, leb, eqb, if◌then◌else◌}
 use Rattle.model.specs.declared.Setup.{Setup}
-use Rattle.model.specs.declared.Reading.TheVariants.{Unread, Ohms}
 use Rattle.model.specs.declared.Bay.{Bay}
 use Rattle.model.specs.declared.Machine.{Machine}
 use Rattle.model.specs.Words.{names}
@@ -11,7 +10,7 @@ use Rattle.charger.specs.ByEvent.{fresh_if, arrived_if}
 
 -- a pack that was just put in
 abbrev pub new_pack : Bay
-new_pack = record { present = true; ok = true; low = false; reading = Unread }
+new_pack = record { present = true; ok = true; low = false; reading = None }
 
 -- another bay at number b, the rest as they are
 unfoldable pub with_bay : List Bay → ℕ → Bay → List Bay
@@ -23,7 +22,11 @@ swapped m b bay = with_notice (with_charger (with_bays m (with_bay m.bays b bay)
 
 -- a bay after a signal was read, here or at another
 abbrev pub signal_read : Bool → Bay → ℕ → Bay
-signal_read here bay ohms = record { present = bay.present; ok = bay.ok; low = bay.low; reading = if here then Ohms ohms else bay.reading }
+signal_read here bay ohms = record { present = bay.present; ok = bay.ok; low = bay.low; reading = if here then Some ohms else bay.reading }
+
+-- a signal read at bay b, the rest as they are
+unfoldable pub with_signal : List Bay → ℕ → ℕ → List Bay
+with_signal bays b ohms = four_bays (λ k. signal_read (eqb b k) (bay_at bays k) ohms)
 
 -- a bay after a terminal voltage was read, here or at another
 abbrev pub terminal_read : Bool → Setup → Bay → ℕ → Bay
@@ -34,6 +37,10 @@ terminal_read here s bay v =
       low = if here && ltb v s.low then true else if here && leb s.restart v then false else bay.low;
       reading = bay.reading;
     }
+
+-- a terminal voltage read at bay b, the rest as they are
+unfoldable pub with_terminal : Setup → List Bay → ℕ → ℕ → List Bay
+with_terminal s bays b v = four_bays (λ k. terminal_read (eqb b k) s (bay_at bays k) v)
 
 -- AC goes: a fresh start; AC arrives: wake-up counts anew, POWER_BY 0; either sets the notice
 unfoldable pub ac_set : Machine → Bool → Machine

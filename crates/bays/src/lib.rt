@@ -4,9 +4,9 @@
 ghost use Rattle.std.specs.Prelude.{◌≡◌, cond};
 ghost use Rattle.model.specs.declared.Event.TheVariants as event;
 ghost use Rattle.model.specs.Machines.{act};
-ghost use Rattle.bays.specs.ByEvent.{new_pack, with_bay, swapped, signal_read, terminal_read};
+ghost use Rattle.bays.specs.ByEvent.{new_pack, with_bay, swapped, signal_read, with_signal, terminal_read, with_terminal};
 
-use model::{Bay, Machine, Reading, Selector, Setup};
+use model::{Bay, Machine, Setup};
 
 // A bay whose pack was just put in.
 #[inline(always)]
@@ -17,36 +17,34 @@ fn new_pack() -> Bay
         present: true,
         ok: true,
         low: false,
-        reading: Reading::Unread,
+        reading: None,
     }
 }
 
 // The bays with another at number b, all as they are where there is no such bay.
 #[inline(always)]
+#[tactic(auto, unfolding(crate::specs::ByEvent::with_bay, model::specs::Bays::bay_at))]
 fn put_bay(bays: [Bay; 4], b: u8, bay: Bay) -> [Bay; 4]
     ensures { result ≡ with_bay bays b bay }
 {
-    let first = machine::choose_bay(b == 0, bay, bays[0]);
-    let second = machine::choose_bay(b == 1, bay, bays[1]);
-    let third = machine::choose_bay(b == 2, bay, bays[2]);
-    let fourth = machine::choose_bay(b == 3, bay, bays[3]);
-    [first, second, third, fourth]
+    std::array::from_fn(|k| if b as usize == k { bay } else { bays[k] })
 }
 
 // A machine whose bay b now holds another pack or none.
 #[inline(always)]
-fn swap(m: Machine, b: u8, bay: Bay) -> Machine
+#[tactic(auto, unfolding(crate::specs::ByEvent::swapped))]
+fn swap(mut m: Machine, b: u8, bay: Bay) -> Machine
     ensures { result ≡ swapped m b bay }
 {
-    let bays = m.bays;
-    let mut n = machine::with_bays(m, put_bay(bays, b, bay));
-    n.charger = charger::fresh_if(words::names(m.selector.charge, b), m.charger);
-    n.notice = true;
-    n
+    m.bays = put_bay(m.bays, b, bay);
+    m.charger = charger::fresh_if(words::names(m.selector.charge, b), m.charger);
+    m.notice = true;
+    m
 }
 
 // The machine after a pack was put in, before it settles.
 #[inline(always)]
+#[tactic(auto, using(crate::proofs::ByEvent::on_insertion))]
 pub fn insert(m: Machine, b: u8) -> Machine
     ensures { result ≡ act m (event.Insertion b) }
 {
@@ -55,18 +53,11 @@ pub fn insert(m: Machine, b: u8) -> Machine
 
 // The machine after a pack was pulled, before it settles.
 #[inline(always)]
+#[tactic(auto, using(crate::proofs::ByEvent::on_removal))]
 pub fn remove(m: Machine, b: u8) -> Machine
     ensures { result ≡ act m (event.Removal b) }
 {
     swap(m, b, machine::empty_bay())
-}
-
-// The reading a where c holds, else b.
-#[inline(always)]
-fn choose_reading(c: bool, a: Reading, b: Reading) -> Reading
-    ensures { result ≡ cond c a b }
-{
-    if c { a } else { b }
 }
 
 // A bay after a signal was read, here or at another.
@@ -74,27 +65,28 @@ fn choose_reading(c: bool, a: Reading, b: Reading) -> Reading
 fn take_signal(here: bool, bay: Bay, ohms: u32) -> Bay
     ensures { result ≡ signal_read here bay ohms }
 {
-    let old = bay.reading;
-    let reading = choose_reading(here, Reading::Ohms(ohms), old);
     Bay {
-        present: bay.present,
-        ok: bay.ok,
-        low: bay.low,
-        reading: reading,
+        reading: if here { Some(ohms) } else { bay.reading },
+        ..bay
     }
+}
+
+// The bays after a signal was read at bay b, all as they are where there is no such bay.
+#[inline(always)]
+#[tactic(auto, unfolding(crate::specs::ByEvent::with_signal, model::specs::Bays::bay_at))]
+fn put_signal(bays: [Bay; 4], b: u8, ohms: u32) -> [Bay; 4]
+    ensures { result ≡ with_signal bays b ohms }
+{
+    std::array::from_fn(|k| take_signal(b as usize == k, bays[k], ohms))
 }
 
 // The machine after a bay's safety signal was read, before it settles.
 #[inline(always)]
+#[tactic(auto, unfolding(crate::specs::ByEvent::with_signal), using(crate::proofs::ByEvent::on_signal))]
 pub fn read_signal(m: Machine, b: u8, ohms: u32) -> Machine
     ensures { result ≡ act m (event.Signal b ohms) }
 {
-    let bays = m.bays;
-    let first = take_signal(b == 0, bays[0], ohms);
-    let second = take_signal(b == 1, bays[1], ohms);
-    let third = take_signal(b == 2, bays[2], ohms);
-    let fourth = take_signal(b == 3, bays[3], ohms);
-    machine::with_bays(m, [first, second, third, fourth])
+    machine::with_bays(m, put_signal(m.bays, b, ohms))
 }
 
 // A bay after a terminal voltage was read, here or at another.
@@ -102,52 +94,47 @@ pub fn read_signal(m: Machine, b: u8, ohms: u32) -> Machine
 fn take_terminal(here: bool, s: Setup, bay: Bay, millivolts: u16) -> Bay
     ensures { result ≡ terminal_read here s bay millivolts }
 {
-    let reading = bay.reading;
-    let low = words::choose_bool(
-        here & (millivolts < s.low),
-        true,
-        words::choose_bool(here & (s.restart <= millivolts), false, bay.low),
-    );
-    Bay {
-        present: bay.present,
-        ok: bay.ok,
-        low: low,
-        reading: reading,
-    }
+    let low = if here & (millivolts < s.low) {
+        true
+    } else if here & (s.restart <= millivolts) {
+        false
+    } else {
+        bay.low
+    };
+    Bay { low, ..bay }
+}
+
+// The bays after a terminal voltage was read at bay b, all as they are where there is no such bay.
+#[inline(always)]
+#[tactic(auto, unfolding(crate::specs::ByEvent::with_terminal, model::specs::Bays::bay_at))]
+fn put_terminal(s: Setup, bays: [Bay; 4], b: u8, millivolts: u16) -> [Bay; 4]
+    ensures { result ≡ with_terminal s bays b millivolts }
+{
+    std::array::from_fn(|k| take_terminal(b as usize == k, s, bays[k], millivolts))
 }
 
 // The machine after a bay's terminal voltage was read, before it settles.
 #[inline(always)]
+#[tactic(auto, unfolding(crate::specs::ByEvent::with_terminal), using(crate::proofs::ByEvent::on_terminal))]
 pub fn read_terminal(m: Machine, b: u8, millivolts: u16) -> Machine
     ensures { result ≡ act m (event.Terminal b millivolts) }
 {
-    let bays = m.bays;
-    let s = m.setup;
-    let first = take_terminal(b == 0, s, bays[0], millivolts);
-    let second = take_terminal(b == 1, s, bays[1], millivolts);
-    let third = take_terminal(b == 2, s, bays[2], millivolts);
-    let fourth = take_terminal(b == 3, s, bays[3], millivolts);
-    machine::with_bays(m, [first, second, third, fourth])
+    machine::with_bays(m, put_terminal(m.setup, m.bays, b, millivolts))
 }
 
 // The machine after an AC event, before it settles.
 #[inline(always)]
-pub fn set_ac(m: Machine, present: bool) -> Machine
+#[tactic(auto, unfolding(crate::specs::ByEvent::ac_set), using(crate::proofs::ByEvent::on_ac))]
+pub fn set_ac(mut m: Machine, present: bool) -> Machine
     ensures { result ≡ act m (event.Ac present) }
 {
     let goes = m.ac & !present;
     let arrives = !m.ac & present;
-    let power = words::choose(arrives, 0, m.selector.power);
-    let selector = Selector {
-        smb: m.selector.smb,
-        power: power,
-        charge: m.selector.charge,
-        next: m.selector.next,
-    };
-    let mut n = m;
-    n.charger = charger::arrive_if(arrives, charger::fresh_if(goes, m.charger));
-    n.selector = selector;
-    n.ac = present;
-    n.notice = arrives | goes | m.notice;
-    n
+    m.charger = charger::arrive_if(arrives, charger::fresh_if(goes, m.charger));
+    if arrives {
+        m.selector.power = 0;
+    }
+    m.ac = present;
+    m.notice = arrives | goes | m.notice;
+    m
 }

@@ -4,18 +4,17 @@
 ghost use Rattle.std.specs.Prelude.{◌≡◌, ◌≤◌, if◌then◌else◌};
 ghost use Rattle.model.specs.Board.{limited, class_of, class_read, allowed, allowed_to_wake, class_bits};
 
-use model::{Class, Edge, Limit, Reading};
+use model::{Class, Edge, Limit};
 
 // The limit rule: 65535 gives the safe value, any other request is cut at the largest.
+#[tactic(auto, unfolding(model::specs::Board::limited))]
 pub fn limit(l: Limit, request: u16) -> u16
     ensures { result ≡ limited l request }
 {
     if request == 65535 {
         l.safe
-    } else if request <= l.largest {
-        request
     } else {
-        l.largest
+        request.min(l.largest)
     }
 }
 
@@ -31,25 +30,21 @@ const EDGES: [Edge; 4] = [
 pub fn class_of(ohms: u32) -> Class
     ensures { result ≡ class_of ohms }
 {
-    let mut i = 0;
-    while i < EDGES.len() {
-        let edge = EDGES[i];
-        let Edge(below, class) = edge;
-        if ohms < below {
-            return class;
+    for Edge(below, class) in &EDGES {
+        if ohms < *below {
+            return *class;
         }
-        i += 1;
     }
     Class::Over
 }
 
 // The class of a signal that may be unread.
-pub fn class_read(reading: Reading) -> Class
+pub fn class_read(reading: Option<u32>) -> Class
     ensures { result ≡ class_read reading }
 {
     match reading {
-        Reading::Unread => Class::Over,
-        Reading::Ohms(ohms) => class_of(ohms),
+        None => Class::Over,
+        Some(ohms) => class_of(ohms),
     }
 }
 

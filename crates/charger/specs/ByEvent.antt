@@ -44,6 +44,17 @@ arrived_if arrives c =
 abbrev pub just_asked : ℕ → Request
 just_asked w = record { word = w; age = 0; mark = true }
 
+-- 0x14, 0x15: the charger but for the request itself: the hold is lifted if the other was rewritten too
+abbrev pub asked_beside : Request → Charger → Charger
+asked_beside other c =
+    record {
+      current = c.current;
+      voltage = c.voltage;
+      hold = if other.mark then false else c.hold;
+      inhibit = c.inhibit;
+      wake = spent_if true c.wake;
+    }
+
 -- 0x14: the hold is lifted if the voltage was rewritten too
 unfoldable pub current_set : Charger → ℕ → Charger
 current_set c w =

@@ -7,80 +7,62 @@ ghost use Rattle.model.specs.ChargerRules as rules;
 ghost use Rattle.model.specs.Board.{allows, allows_to_wake};
 ghost use Rattle.model.specs.Machines.{act};
 ghost use Rattle.model.specs.Reads.{ready, charging, waking, output, above_largest, signal_bits, status_word};
-ghost use Rattle.charger.specs.ByEvent.{dropped_if, begun_if, spent_if, fresh_if, arrived_if, just_asked, current_set, voltage_set, remarked, alarm_set, aged, ticked, zeroed, mode_set};
+ghost use Rattle.charger.specs.ByEvent.{spent_if, fresh_if, arrived_if, just_asked, asked_beside, remarked, alarm_set, aged, ticked, zeroed, mode_set};
 
 use model::{Bay, Charger, Limit, Machine, Output, Request, Wake};
 
-// A request, cleared where the event is a fresh start.
-fn drop_if(start: bool, q: Request) -> Request
-    ensures { result ≡ dropped_if start q }
-{
-    Request {
-        word: words::choose(start, 0, q.word),
-        age: words::choose(start, 0, q.age),
-        mark: words::choose_bool(start, false, q.mark),
-    }
-}
+// A request that was not made.
+const NO_REQUEST: Request = Request {
+    word: 0,
+    age: 0,
+    mark: false,
+};
 
-// Wake-up, begun anew where the event is a fresh start.
-fn begin_if(start: bool, w: Wake) -> Wake
-    ensures { result ≡ begun_if start w }
-{
-    Wake {
-        age: words::choose(start, 0, w.age),
-        spent: words::choose_bool(start, false, w.spent),
-    }
-}
-
-// Wake-up, spent where something was asked.
-fn spend_if(asked: bool, w: Wake) -> Wake
-    ensures { result ≡ spent_if asked w }
-{
-    Wake {
-        age: w.age,
-        spent: words::choose_bool(asked, true, w.spent),
-    }
-}
+// Wake-up that has just begun.
+const WAKE_BEGUN: Wake = Wake {
+    age: 0,
+    spent: false,
+};
 
 // A charger, cleared where the event is a fresh start; the inhibit state stays.
+#[tactic(auto, unfolding(crate::specs::ByEvent::fresh_if))]
 pub fn fresh_if(start: bool, c: Charger) -> Charger
     ensures { result ≡ fresh_if start c }
 {
-    Charger {
-        current: drop_if(start, c.current),
-        voltage: drop_if(start, c.voltage),
-        hold: words::choose_bool(start, false, c.hold),
-        inhibit: c.inhibit,
-        wake: begin_if(start, c.wake),
+    if start {
+        Charger {
+            current: NO_REQUEST,
+            voltage: NO_REQUEST,
+            wake: WAKE_BEGUN,
+            hold: false,
+            ..c
+        }
+    } else {
+        c
     }
 }
 
 // A charger, its wake-up counted anew where AC arrives.
+#[tactic(auto, unfolding(crate::specs::ByEvent::arrived_if))]
 pub fn arrive_if(arrives: bool, c: Charger) -> Charger
     ensures { result ≡ arrived_if arrives c }
 {
-    let wake = Wake {
-        age: words::choose(arrives, 0, c.wake.age),
-        spent: c.wake.spent,
-    };
-    Charger {
-        current: same(c.current),
-        voltage: same(c.voltage),
-        hold: c.hold,
-        inhibit: c.inhibit,
-        wake: wake,
+    if arrives {
+        Charger {
+            wake: Wake { age: 0, ..c.wake },
+            ..c
+        }
+    } else {
+        c
     }
 }
 
-// A request as it stands, field by field: copied whole it would not stay in registers.
-fn same(kept: Request) -> Request
-    ensures { result ≡ kept }
+// Wake-up, spent where something was asked. `remark` and `zero_if` have its shape, and each sets another field, which
+// no type parameter can name.
+fn spend_if(asked: bool, w: Wake) -> Wake
+    ensures { result ≡ spent_if asked w }
 {
-    Request {
-        word: kept.word,
-        age: kept.age,
-        mark: kept.mark,
-    }
+    if asked { Wake { spent: true, ..w } } else { w }
 }
 
 // A request that was just written.
@@ -88,35 +70,20 @@ fn ask(word: u16) -> Request
     ensures { result ≡ just_asked word }
 {
     Request {
-        word: word,
+        word,
         age: 0,
         mark: true,
     }
 }
 
-// 0x14: the hold is lifted if the voltage was rewritten too.
-fn take_current(c: Charger, word: u16) -> Charger
-    ensures { result ≡ current_set c word }
+// What a request does to a charger beside itself: the hold is lifted if the other was rewritten too, wake-up is spent.
+fn ask_beside(other: Request, c: Charger) -> Charger
+    ensures { result ≡ asked_beside other c }
 {
     Charger {
-        current: ask(word),
-        voltage: same(c.voltage),
-        hold: words::choose_bool(c.voltage.mark, false, c.hold),
-        inhibit: c.inhibit,
+        hold: if other.mark { false } else { c.hold },
         wake: spend_if(true, c.wake),
-    }
-}
-
-// 0x15: the hold is lifted if the current was rewritten too.
-fn take_voltage(c: Charger, word: u16) -> Charger
-    ensures { result ≡ voltage_set c word }
-{
-    Charger {
-        current: same(c.current),
-        voltage: ask(word),
-        hold: words::choose_bool(c.current.mark, false, c.hold),
-        inhibit: c.inhibit,
-        wake: spend_if(true, c.wake),
+        ..c
     }
 }
 
@@ -124,25 +91,24 @@ fn take_voltage(c: Charger, word: u16) -> Charger
 fn remark(alarm: bool, q: Request) -> Request
     ensures { result ≡ remarked alarm q }
 {
-    Request {
-        word: q.word,
-        age: q.age,
-        mark: words::choose_bool(alarm, false, q.mark),
+    if alarm {
+        Request { mark: false, ..q }
+    } else {
+        q
     }
 }
 
 // 0x16: an alarm puts on the hold, a word that is none lifts it.
+#[tactic(auto, unfolding(crate::specs::ByEvent::alarm_set))]
 fn take_alarm(c: Charger, word: u16) -> Charger
     ensures { result ≡ alarm_set c word }
 {
     let alarm = words::is_alarm(word);
-    let wake = c.wake;
     Charger {
         current: remark(alarm, c.current),
         voltage: remark(alarm, c.voltage),
         hold: alarm,
-        inhibit: c.inhibit,
-        wake: wake,
+        ..c
     }
 }
 
@@ -154,75 +120,86 @@ fn older(age: u16) -> u16
 }
 
 // A request whose age is 175 after a tick becomes 0.
+#[tactic(auto, unfolding(crate::specs::ByEvent::aged))]
 fn age_one(q: Request) -> Request
     ensures { result ≡ aged q }
 {
     let age = older(q.age);
     Request {
-        word: words::choose(age == 175, 0, q.word),
-        age: age,
-        mark: q.mark,
+        word: if age == 175 { 0 } else { q.word },
+        age,
+        ..q
     }
 }
 
 // A tick: each request has an age of its own, and so has wake-up.
+#[tactic(auto, unfolding(crate::specs::ByEvent::ticked))]
 fn age_all(c: Charger) -> Charger
     ensures { result ≡ ticked c }
 {
-    let wake = Wake {
-        age: older(c.wake.age),
-        spent: c.wake.spent,
-    };
     Charger {
         current: age_one(c.current),
         voltage: age_one(c.voltage),
-        hold: c.hold,
-        inhibit: c.inhibit,
-        wake: wake,
+        wake: Wake {
+            age: older(c.wake.age),
+            ..c.wake
+        },
+        ..c
     }
 }
 
 // 0x12, bit 3: the request becomes 0, its age and mark stay.
-fn zero(on: bool, q: Request) -> Request
-    ensures { result ≡ zeroed on q }
+fn zero_if(zeroes: bool, q: Request) -> Request
+    ensures { result ≡ zeroed zeroes q }
 {
-    Request {
-        word: words::choose(on, 0, q.word),
-        age: q.age,
-        mark: q.mark,
-    }
+    if zeroes { Request { word: 0, ..q } } else { q }
 }
 
 // POR_RESET is looked at first: a fresh start, and no inhibit.
+#[tactic(auto, unfolding(crate::specs::ByEvent::mode_set, crate::specs::ByEvent::fresh_if))]
 fn take_mode(c: Charger, word: u16) -> Charger
     ensures { result ≡ mode_set c word }
 {
     let reset = words::bit(word, 2);
-    let on = words::bit(word, 3);
-    Charger {
-        current: drop_if(reset, zero(on, c.current)),
-        voltage: drop_if(reset, zero(on, c.voltage)),
-        hold: words::choose_bool(reset, false, c.hold),
-        inhibit: words::choose_bool(reset, false, words::bit(word, 0)),
-        wake: begin_if(reset, spend_if(on, c.wake)),
-    }
+    let zeroes = words::bit(word, 3);
+    let zeroed = Charger {
+        current: zero_if(zeroes, c.current),
+        voltage: zero_if(zeroes, c.voltage),
+        wake: spend_if(zeroes, c.wake),
+        inhibit: if reset { false } else { words::bit(word, 0) },
+        ..c
+    };
+    fresh_if(reset, zeroed)
 }
 
-// The machine after an accepted ChargingCurrent word, from the host or a bay, before it settles.
+// The machine after an accepted ChargingCurrent word, from the host or a bay, before it settles. It and `set_voltage`
+// differ in the field alone, which no type parameter can name; what they share is `ask_beside`.
+#[tactic(auto, unfolding(crate::specs::ByEvent::current_set), using(crate::proofs::ByEvent::on_current))]
 pub fn set_current(m: Machine, word: u16) -> Machine
     ensures { result ≡ act m (event.HostWrite 0x12 0x14 word) }
 {
-    machine::with_charger(m, take_current(m.charger, word))
+    let charger = Charger {
+        current: ask(word),
+        ..ask_beside(m.charger.voltage, m.charger)
+    };
+    machine::with_charger(m, charger)
 }
 
 // The machine after an accepted ChargingVoltage word, from the host or a bay, before it settles.
+#[tactic(auto, unfolding(crate::specs::ByEvent::voltage_set), using(crate::proofs::ByEvent::on_voltage))]
 pub fn set_voltage(m: Machine, word: u16) -> Machine
     ensures { result ≡ act m (event.HostWrite 0x12 0x15 word) }
 {
-    machine::with_charger(m, take_voltage(m.charger, word))
+    let charger = Charger {
+        voltage: ask(word),
+        ..ask_beside(m.charger.current, m.charger)
+    };
+    machine::with_charger(m, charger)
 }
 
-// The machine after an accepted AlarmWarning word, from the host or a bay, before it settles.
+// The machine after an accepted AlarmWarning word, from the host or a bay, before it settles. It, `set_mode` and `tick`
+// are a line each: the event that each promises is its own.
+#[tactic(auto, using(crate::proofs::ByEvent::on_alarm))]
 pub fn set_alarm(m: Machine, word: u16) -> Machine
     ensures { result ≡ act m (event.HostWrite 0x12 0x16 word) }
 {
@@ -230,6 +207,7 @@ pub fn set_alarm(m: Machine, word: u16) -> Machine
 }
 
 // The machine after a ChargerMode word, before it settles.
+#[tactic(auto, using(crate::proofs::ByEvent::on_mode))]
 pub fn set_mode(m: Machine, word: u16) -> Machine
     ensures { result ≡ act m (event.HostWrite 0x12 0x12 word) }
 {
@@ -237,13 +215,17 @@ pub fn set_mode(m: Machine, word: u16) -> Machine
 }
 
 // The machine after a tick, before it settles.
+#[tactic(auto, using(crate::proofs::ByEvent::on_tick))]
 pub fn tick(m: Machine) -> Machine
     ensures { result ≡ act m event.Tick }
 {
     machine::with_charger(m, age_all(m.charger))
 }
 
-// AC and the CHARGE bay are present, its signal allows requested charge or, to wake a pack, wake-up; no inhibit, no hold.
+// AC and the CHARGE bay are present, its signal allows requested charge or, to wake a pack, wake-up; no inhibit, no
+// hold. Which of the two is a truth value, known at each call: other forms cost 9 to 40 % of a record
+// (docs/DECISIONS.md, "What a class allows").
+#[tactic(auto, unfolding(model::specs::Reads::ready, model::specs::Board::allows, model::specs::Board::allows_to_wake))]
 fn is_ready(wake: bool, m: Machine) -> bool
     ensures { result ≡ ready (λ reading. if wake then allows_to_wake reading else allows reading) m }
 {
@@ -255,6 +237,7 @@ fn is_ready(wake: bool, m: Machine) -> bool
 }
 
 // Ready for requested charge, and both requests are there.
+#[tactic(auto, unfolding(model::specs::Reads::charging))]
 fn is_charging(m: Machine) -> bool
     ensures { result ≡ charging m }
 {
@@ -262,6 +245,7 @@ fn is_charging(m: Machine) -> bool
 }
 
 // Ready for wake-up, which is switched on and not spent, and its 175th tick is still to come.
+#[tactic(auto, unfolding(model::specs::Reads::waking))]
 fn is_waking(m: Machine) -> bool
     ensures { result ≡ waking m }
 {
@@ -273,6 +257,7 @@ fn is_waking(m: Machine) -> bool
 
 // The charge output: both requests cut to the limits, the wake pair, or 0 mA and 0 mV.
 #[inline(always)]
+#[tactic(auto, unfolding(model::specs::Reads::output))]
 pub fn output_of(m: Machine) -> Output
     ensures { result ≡ output m }
 {
@@ -292,6 +277,7 @@ pub fn output_of(m: Machine) -> Output
 }
 
 // Whether a request is above the largest value, 65535 too.
+#[tactic(auto, unfolding(model::specs::Reads::above_largest))]
 fn is_above(l: Limit, request: u16) -> bool
     ensures { result ≡ above_largest l request }
 {
@@ -299,6 +285,7 @@ fn is_above(l: Limit, request: u16) -> bool
 }
 
 // Status bits 8 to 11 of the CHARGE bay; over range when it is none or absent.
+#[tactic(auto, unfolding(model::specs::Reads::signal_bits))]
 fn signal_bits(bay: Bay) -> u16
     ensures { (result ≡ signal_bits bay) × (result ≤ 0x0F00) }
 {
@@ -311,6 +298,7 @@ fn signal_bits(bay: Bay) -> u16
 }
 
 // The ChargerStatus word that the host reads.
+#[tactic(auto, unfolding(model::specs::Reads::status_word))]
 pub fn status_word(m: Machine) -> u16
     ensures { result ≡ status_word m }
 {

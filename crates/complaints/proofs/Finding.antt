@@ -7,7 +7,7 @@ use lib.ListN.{length, get_or, take, drop}
 use lib.Seq.{get_or-drop}
 use Rattle.notation.specs.Words.{pieces, not_empty, blank, uncommented, words_of}
 use Rattle.cutter.specs.declared.Word.{Word}
-use Rattle.cutter.specs.Cuts.{past, first_word}
+use Rattle.cutter.specs.Cuts.{first_word}
 use Rattle.cutter.proofs.Words.{word_here, words_behind, cut_inside}
 use Rattle.complaints.specs.Saying.{Finds}
 
@@ -22,11 +22,6 @@ module _ (s : List ℕ) (at : ℕ) (w : Word) (p : w ≡ first_word s at) (h : a
   -- the word that is cut out is the first
   first : take (w.to - w.from) (drop w.from s) ≡ get_or (words_of (drop at s)) 0 []
   first = rw p (sym (word_here s at))
-
-  -- one that is there takes a byte at least
-  pub word_on : (w.from ≡ w.to → ⊥) → at < w.to
-  unfolding first_word past
-  word_on some = let i = cut_inside s at w p h in let e = ap (λ (x : Word). x.from) p in omega (arith, i.0, some)
 
   module _ (number left : ℕ) (same : get_or (words_of s) number [] ≡ get_or (words_of (drop at s)) left []) where
     -- the words behind it have numbers one lower

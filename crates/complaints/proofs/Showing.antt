@@ -1,8 +1,8 @@
 -- A word as it is shown, byte after byte; and what is found.
-use Rattle.std.specs.Prelude.{if◌then◌else◌}
 use Prim.Native.Nat.{ℕ, zero, suc, ◌+◌, ◌≤◌, ◌<◌}
 use native.Mathlib.Omega.{arith}
 use mathlib.Core.Path.{◌≡◌, refl}
+use mathlib.Core.Logic.{◌⊎◌, inl, inr}
 use mathlib.Core.List.{List, [], ◌∷◌, ◌++◌, append-nil}
 use lib.ListN.{length, get_or, take, length-append}
 use lib.Seq.{take_all}
@@ -10,9 +10,8 @@ use borrow.Author.Tests.{eq-eqb, ne_eqb, lt-ltb, le-ltb}
 use Rattle.spelling.specs.Text.{text}
 use Rattle.notation.specs.declared.Field.{Field}
 use Rattle.notation.specs.declared.Field.TheVariants.{Opening, Bay, Address, Code, Word, Ohms, Millivolts, Present, Ticks, Rest, Length}
-use Rattle.notation.specs.Complaints.{shown, all_shown, word_shown, word_found, found}
+use Rattle.notation.specs.Complaints.{number_up_to, expected, shown, all_shown, word_shown, word_found, found}
 use Rattle.notation.proofs.Complaints.{shown_long}
-use Rattle.complaints.specs.Saying.{is_length}
 
 -- a byte of it
 pub shown_at : (t : List ℕ) (i : ℕ) → i < length t → shown (get_or t i 0) ≡ get_or (all_shown t) i 0
@@ -42,17 +41,36 @@ module _ (w : List ℕ) where
   pub all_long : (length w ≡ 0 → ⊥) → length w ≤ 32 → length (word_found w) ≡ length w
   all_long some h = rw (all_found some h, shown_long)
 
--- a word, or a line that is too long
-pub found_by_length : (f : Field) (w : List ℕ) → found f w ≡ (if is_length f then text "more" else word_found w)
+-- of every field but the line's length, a word
+pub found_word : (f : Field) (w : List ℕ) → (f ≡ Length → ⊥) → found f w ≡ word_found w
 unfolding found
-found_by_length Opening w = refl
-found_by_length Bay w = refl
-found_by_length Address w = refl
-found_by_length Code w = refl
-found_by_length Word w = refl
-found_by_length Ohms w = refl
-found_by_length Millivolts w = refl
-found_by_length Present w = refl
-found_by_length Ticks w = refl
-found_by_length Rest w = refl
-found_by_length Length w = refl
+found_word Opening w other = refl
+found_word Bay w other = refl
+found_word Address w other = refl
+found_word Code w other = refl
+found_word Word w other = refl
+found_word Ohms w other = refl
+found_word Millivolts w other = refl
+found_word Present w other = refl
+found_word Ticks w other = refl
+found_word Rest w other = refl
+found_word Length w other = absurd (other refl)
+
+-- WHAT WAS EXPECTED: fields that hold numbers up to one limit
+
+module _ (f : Field) where
+  pub byte_expected : (f ≡ Bay) ⊎ ((f ≡ Address) ⊎ (f ≡ Code)) → expected f ≡ number_up_to 255
+  unfolding expected
+  byte_expected (inl p) = rw p
+  byte_expected (inr (inl p)) = rw p
+  byte_expected (inr (inr p)) = rw p
+
+  pub word_expected : (f ≡ Word) ⊎ (f ≡ Millivolts) → expected f ≡ number_up_to 65535
+  unfolding expected
+  word_expected (inl p) = rw p
+  word_expected (inr p) = rw p
+
+  pub long_expected : (f ≡ Ohms) ⊎ (f ≡ Ticks) → expected f ≡ number_up_to 4294967295
+  unfolding expected
+  long_expected (inl p) = rw p
+  long_expected (inr p) = rw p

@@ -1,8 +1,7 @@
 -- What is said of a wrong line, a step on the way: what the code's own functions promise.
-use Rattle.std.specs.Prelude.{ℕ, ◌-◌, ◌≤◌, ◌≡◌, List, [], ◌++◌, Bool, true, false, length, get_or, take, drop}
+use Rattle.std.specs.Prelude.{ℕ, ◌-◌, ◌≤◌, ◌≡◌, List, [], ◌++◌, length, get_or, take, drop}
 use Rattle.spelling.specs.Text.{text, decimal}
 use Rattle.notation.specs.declared.Field.{Field}
-use Rattle.notation.specs.declared.Field.TheVariants.{Opening, Bay, Address, Code, Word, Ohms, Millivolts, Present, Ticks, Rest, Length}
 use Rattle.notation.specs.Words.{words_of}
 use Rattle.notation.specs.Complaints.{name_of}
 use Rattle.cutter.specs.declared.Word as cutter
@@ -10,20 +9,6 @@ use Rattle.cutter.specs.declared.Word as cutter
 -- the front: of which line and of which field something is said
 unfoldable pub subject : ℕ → Field → List ℕ
 subject n f = text "line " ++ decimal n ++ text ": " ++ name_of f ++ text ": expected "
-
--- a line that is too long is wrong as a whole
-abbrev pub is_length : Field → Bool
-is_length Opening = false
-is_length Bay = false
-is_length Address = false
-is_length Code = false
-is_length Word = false
-is_length Ohms = false
-is_length Millivolts = false
-is_length Present = false
-is_length Ticks = false
-is_length Rest = false
-is_length Length = true
 
 -- word k of a line, empty if there are not so many, lies where it was found
 pub record Finds (line : List ℕ) (k : ℕ) (w : cutter.Word) : Type 0 where

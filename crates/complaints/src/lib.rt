@@ -1,19 +1,20 @@
 // What is said of a wrong line, put into a buffer that the caller lends: the line's number, the field that is wrong, what was expected
 // there and what was found. It asks for the room of the longest such text. Without it the answer is 14, as the log's writer has it, and
 // no byte changes.
-#![tactic(auto)]
+#![tactic(auto, unfolding(pieces::specs::Pieces::piece_spec, pieces::specs::Pieces::piece_after))]
 
 ghost use Rattle.std.specs.Prelude.{◌≡◌, [], ◌+◌, ◌≤◌, length, get_or};
-ghost use Rattle.layout.specs.Writing.{placed, put};
-ghost use Rattle.pieces.specs.Pieces.{piece_spec, piece_after, place_after, text_after};
+ghost use Rattle.layout.specs.Writing.{placed};
+ghost use Rattle.pieces.specs.Pieces.{piece_spec, piece_after};
+ghost use Rattle.pieces.specs.Placing.{Puts};
 ghost use Rattle.notation.specs.Words.{words_of};
 ghost use Rattle.notation.specs.Complaints.{name_of, number_up_to, expected, shown, all_shown, word_found, found, complaint, longest_complaint};
-ghost use Rattle.complaints.specs.Saying.{subject, is_length, Finds};
+ghost use Rattle.complaints.specs.Saying.{subject, Finds};
 
 use cutter::Word;
-use layout::Written;
 use model::Refusal;
 use notation::Field;
+use pieces::Line;
 
 // The longest of these texts.
 const LONGEST: usize = 165;
@@ -29,121 +30,93 @@ pub fn complain(
     line: &[u8],
     field: Field,
     word: usize,
-) -> Written
+) -> Result<usize, Refusal>
     ensures value { placed result ≡ piece_spec longest_complaint (length out.old) place (complaint number line.now field word) }
     ensures after { out.new ≡ piece_after longest_complaint out.old place (complaint number line.now field word) }
 {
-    if pieces::has_room_for(out.len(), place, LONGEST) {
-        let a = put_subject(out, place, number, field);
-        let b = put_expected(out, a, field);
-        let c = pieces::text(out, b, b", found ");
-        let d = put_found(out, c, line, field, word);
-        return Written::UpTo(pieces::text(out, d, b"\n"));
-    }
-    Written::Refused(Refusal::NoRoom)
+    pieces::room_for(out.len(), place, LONGEST)?;
+    let mut said = Line { out, place };
+    put_subject(&mut said, number, field);
+    put_expected(&mut said, field);
+    said.text(b", found ");
+    put_found(&mut said, line, field, word);
+    said.text(b"\n");
+    Ok(said.place)
 }
 
-// The name of a field: the place after it, or past the end.
-fn put_name(out: &mut [u8], at: usize, field: Field) -> usize
-    ensures value { result ≡ place_after (length out.old) at (name_of field) }
-    ensures after { out.new ≡ text_after out.old at (name_of field) }
+// The name of a field.
+#[tactic(auto, unfolding(spelling::specs::Text::text, notation::specs::Complaints::name_of))]
+fn name_of(field: Field) -> &'static [u8]
+    ensures { result.now ≡ name_of field }
 {
     match field {
-        Field::Opening => pieces::text(out, at, b"event"),
-        Field::Bay => pieces::text(out, at, b"bay"),
-        Field::Address => pieces::text(out, at, b"address"),
-        Field::Code => pieces::text(out, at, b"code"),
-        Field::Word => pieces::text(out, at, b"word"),
-        Field::Ohms => pieces::text(out, at, b"ohms"),
-        Field::Millivolts => pieces::text(out, at, b"millivolts"),
-        Field::Present => pieces::text(out, at, b"ac"),
-        Field::Ticks => pieces::text(out, at, b"ticks"),
-        Field::Rest => pieces::text(out, at, b"end"),
-        Field::Length => pieces::text(out, at, b"length"),
+        Field::Opening => b"event",
+        Field::Bay => b"bay",
+        Field::Address => b"address",
+        Field::Code => b"code",
+        Field::Word => b"word",
+        Field::Ohms => b"ohms",
+        Field::Millivolts => b"millivolts",
+        Field::Present => b"ac",
+        Field::Ticks => b"ticks",
+        Field::Rest => b"end",
+        Field::Length => b"length",
     }
 }
 
-// WHERE IT FITS. Each is put at a place where it fits, and the answer is the place after it.
+// WHERE IT FITS. Each is put at the place of what is said, where it fits, and the place moves behind it.
 
 // The number of a line and the name of a field, in front of what was expected there.
-fn put_subject(out: &mut [u8], at: usize, number: u64, field: Field) -> usize
-    requires { at + length (subject number field) ≤ length out.old }
-    ensures value { result ≡ at + length (subject number field) }
-    ensures after { out.new ≡ put out.old at (subject number field) }
+fn put_subject(said: &mut Line, number: u64, field: Field)
+    requires { said.old.place + length (subject number field) ≤ length said.old.out.now }
+    ensures { Puts said.old said.new (subject number field) }
 {
-    let a = pieces::text(out, at, b"line ");
-    let b = pieces::decimal(out, a, number);
-    let c = pieces::text(out, b, b": ");
-    let d = put_name(out, c, field);
-    pieces::text(out, d, b": expected ")
+    said.text(b"line ");
+    said.decimal(number);
+    said.text(b": ");
+    said.text(name_of(field));
+    said.text(b": expected ");
 }
 
 // What a field should hold.
-fn put_expected(out: &mut [u8], at: usize, field: Field) -> usize
-    requires { at + length (expected field) ≤ length out.old }
-    ensures value { result ≡ at + length (expected field) }
-    ensures after { out.new ≡ put out.old at (expected field) }
+fn put_expected(said: &mut Line, field: Field)
+    requires { said.old.place + length (expected field) ≤ length said.old.out.now }
+    ensures { Puts said.old said.new (expected field) }
 {
     match field {
-        Field::Opening => pieces::text(
-            out,
-            at,
+        Field::Opening => said.text(
             b"ac, insertion, removal, ohms, terminal, host write, host read, bay word or tick",
         ),
-        Field::Bay => put_number(out, at, 255),
-        Field::Address => put_number(out, at, 255),
-        Field::Code => put_number(out, at, 255),
-        Field::Word => put_number(out, at, 65535),
-        Field::Ohms => put_number(out, at, 4294967295),
-        Field::Millivolts => put_number(out, at, 65535),
-        Field::Present => put_number(out, at, 1),
-        Field::Ticks => put_number(out, at, 4294967295),
-        Field::Rest => pieces::text(out, at, b"the end of the line or a comment"),
-        Field::Length => pieces::text(out, at, b"at most 1024 bytes"),
+        Field::Bay | Field::Address | Field::Code => put_number(said, u8::MAX as u64),
+        Field::Word | Field::Millivolts => put_number(said, u16::MAX as u64),
+        Field::Ohms | Field::Ticks => put_number(said, u32::MAX as u64),
+        Field::Present => put_number(said, 1),
+        Field::Rest => said.text(b"the end of the line or a comment"),
+        Field::Length => said.text(b"at most 1024 bytes"),
     }
 }
 
 // A number up to another.
-fn put_number(out: &mut [u8], at: usize, largest: u64) -> usize
-    requires { at + length (number_up_to largest) ≤ length out.old }
-    ensures value { result ≡ at + length (number_up_to largest) }
-    ensures after { out.new ≡ put out.old at (number_up_to largest) }
+fn put_number(said: &mut Line, largest: u64)
+    requires { said.old.place + length (number_up_to largest) ≤ length said.old.out.now }
+    ensures { Puts said.old said.new (number_up_to largest) }
 {
-    let a = pieces::text(out, at, b"a decimal or 0x number from 0 to ");
-    pieces::decimal(out, a, largest)
+    said.text(b"a decimal or 0x number from 0 to ");
+    said.decimal(largest);
 }
 
 // What was found in a field's place.
-fn put_found(out: &mut [u8], at: usize, line: &[u8], field: Field, word: usize) -> usize
-    requires { at + length (found field (get_or (words_of line.now) word [])) ≤ length out.old }
-    ensures value { result ≡ at + length (found field (get_or (words_of line.now) word [])) }
-    ensures after { out.new ≡ put out.old at (found field (get_or (words_of line.now) word [])) }
-{
-    if is_length(field) {
-        return pieces::text(out, at, b"more");
-    }
-    let w = find(line, word);
-    let from = w.from;
-    let to = w.to;
-    put_word(out, at, &line[from..to])
-}
-
-// Whether it is the line itself that is wrong, and no word of it.
-fn is_length(field: Field) -> bool
-    ensures { result ≡ is_length field }
+fn put_found(said: &mut Line, line: &[u8], field: Field, word: usize)
+    requires { said.old.place + length (found field (get_or (words_of line.now) word [])) ≤ length said.old.out.now }
+    ensures { Puts said.old said.new (found field (get_or (words_of line.now) word [])) }
 {
     match field {
-        Field::Opening => false,
-        Field::Bay => false,
-        Field::Address => false,
-        Field::Code => false,
-        Field::Word => false,
-        Field::Ohms => false,
-        Field::Millivolts => false,
-        Field::Present => false,
-        Field::Ticks => false,
-        Field::Rest => false,
-        Field::Length => true,
+        // It is the line itself that is too long, and no word of it.
+        Field::Length => said.text(b"more"),
+        _ => {
+            let Word { from, to } = find(line, word);
+            put_word(said, &line[from..to]);
+        }
     }
 }
 
@@ -153,46 +126,40 @@ fn find(line: &[u8], number: usize) -> Word
     ensures { Finds line.now number result }
 {
     let mut at = 0;
-    let mut left = number;
-    while 0 < left {
+    for _ in 0..number {
         let w = cutter::word_from(line, at);
         if w.from == w.to {
             return w;
         }
         at = w.to;
-        left -= 1;
     }
     cutter::word_from(line, at)
 }
 
 // A word that was found, or that there is none.
-fn put_word(out: &mut [u8], at: usize, word: &[u8]) -> usize
-    requires { at + length (word_found word.now) ≤ length out.old }
-    ensures value { result ≡ at + length (word_found word.now) }
-    ensures after { out.new ≡ put out.old at (word_found word.now) }
+fn put_word(said: &mut Line, word: &[u8])
+    requires { said.old.place + length (word_found word.now) ≤ length said.old.out.now }
+    ensures { Puts said.old said.new (word_found word.now) }
 {
-    if word.len() == 0 {
-        return pieces::text(out, at, b"the end of the line");
+    if word.is_empty() {
+        said.text(b"the end of the line");
+    } else if SHOWN < word.len() {
+        put_shown(said, &word[..SHOWN]);
+        said.text(b"..");
+    } else {
+        put_shown(said, word);
     }
-    if SHOWN < word.len() {
-        let a = put_shown(out, at, &word[0..SHOWN]);
-        return pieces::text(out, a, b"..");
-    }
-    put_shown(out, at, word)
 }
 
 // Bytes as they are shown.
-fn put_shown(out: &mut [u8], at: usize, t: &[u8]) -> usize
-    requires { at + length t.now ≤ length out.old }
-    ensures value { result ≡ at + length (all_shown t.now) }
-    ensures after { out.new ≡ put out.old at (all_shown t.now) }
+fn put_shown(said: &mut Line, t: &[u8])
+    requires { said.old.place + length t.now ≤ length said.old.out.now }
+    ensures { Puts said.old said.new (all_shown t.now) }
 {
-    let mut i = 0;
-    while i < t.len() {
-        out[at + i] = shown(t[i]);
-        i += 1;
+    for (i, byte) in t.iter().enumerate() {
+        said.out[said.place + i] = shown(*byte);
     }
-    at + i
+    said.place += t.len();
 }
 
 // A byte as it is shown: a question mark where it is no printable character.

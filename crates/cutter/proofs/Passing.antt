@@ -1,29 +1,52 @@
 -- Bytes that pass a test, one after the other; and what they tell of lines and words.
+use Rattle.std.specs.Prelude.{Option, Some, None, unwrap_or}
+use Rattle.std.specs.List.{prefix_len}
+use Rattle.model.proofs.Bools.{choose}
 use Prim.Native.Nat.{ℕ, ◌+◌, ◌-◌, ◌≤◌, ◌<◌, min}
-use native.Mathlib.Numerals.{add-one}
 use native.Mathlib.Omega.{arith}
-use mathlib.Core.Path.{◌≡◌, refl, ap}
+use mathlib.Core.Path.{◌≡◌, refl}
 use mathlib.Core.List.{List, [], ◌∷◌}
-use mathlib.Core.Bool.{Bool, true, false, not}
-use lib.ListN.{length, get_or, drop_of_length-le}
-use lib.Seq.{drop-cons}
+use mathlib.Core.Bool.{Bool, true, false, not, cond}
+use lib.Dec.{ltb}
+use borrow.Author.Tests.{ltb-false}
+use lib.ListN.{length, take, drop, drop_of_length-le, length-drop}
+use lib.Seq.{take_all}
 use Rattle.notation.specs.Words.{line_feed, line_in, size_in}
 use Rattle.cutter.specs.Cuts.{first_line, passing, past, unbroken}
 
-module _ (test : ℕ → Bool) (s : List ℕ) (i : ℕ) where
-  -- a byte that passes: the same place is reached from the next
-  pub goes_on : i < length s → test (get_or s i 0) ≡ true → past test s i ≡ past test s (i + 1)
-  unfolding past passing
-  goes_on h t = rw (drop-cons s i 0 h, t, add-one) (omega arith)
+-- no more than there are
+pub passes : (test : ℕ → Bool) (s : List ℕ) → passing test s ≤ length s
+unfolding passing
+passes test [] = omega arith
+passes test (b ∷ s) = let i = passes test s in choose (λ (n : ℕ). n ≤ length (b ∷ s)) (test b) (1 + passing test s) 0 (λ q. omega arith) (λ q. omega arith)
 
-  -- one that does not, and the end
-  pub stops_here : i < length s → test (get_or s i 0) ≡ false → past test s i ≡ i
-  unfolding past passing
-  stops_here h t = rw (drop-cons s i 0 h, t) (omega arith)
+-- where a byte is looked for that does not pass: the first, or the end
+pub found : (test other : ℕ → Bool) → ((b : ℕ) → not (other b) ≡ test b) → (s : List ℕ) (o : Option ℕ) (d n : ℕ)
+    → o ≡ cond (ltb (prefix_len (λ b. not (other b)) s) (length s)) (Some (prefix_len (λ b. not (other b)) s)) None → d ≡ length s → n ≡ unwrap_or o d → n ≡ passing test s
+unfolding passing
+found test other h s o d n p q r = rw (r, p, q, same s) (go (ltb (passing test s) (length s)) refl)
+  where
+    same : (s : List ℕ) → prefix_len (λ b. not (other b)) s ≡ passing test s
+    same [] = refl
+    same (b ∷ s) = rw (h b, same s)
 
-  pub ends_here : length s ≤ i → past test s i ≡ i
+    go : (t : Bool) → ltb (passing test s) (length s) ≡ t → unwrap_or (cond t (Some (passing test s)) None) (length s) ≡ passing test s
+    go true e = refl
+    go false e = let l = ltb-false _ _ e in let w = passes test s in omega arith
+
+pub not_not : (b : Bool) → not (not b) ≡ b
+not_not true = refl
+not_not false = refl
+
+-- from a place on
+module _ (test : ℕ → Bool) (s : List ℕ) (at : ℕ) where
+  pub past_the_end : length s < at → at ≡ past test s at
   unfolding past passing
-  ends_here h = rw (drop_of_length-le s h) (omega arith)
+  past_the_end h = rw (drop_of_length-le s {i = at} (omega arith)) (omega arith)
+
+  pub past_rest : (n : ℕ) → n ≡ passing test (take (length s - at) (drop at s)) → at + n ≡ past test s at
+  unfolding past
+  past_rest n e = let l = length-drop at s in rw (e, take_all (length s - at) (drop at s) (omega (arith, l)))
 
 -- LINES
 
@@ -37,22 +60,9 @@ line_counts (b ∷ s) = go (line_feed b) refl (line_counts s)
     go true q again = (rw q, rw q (omega arith))
     go false q again = (rw q (omega (arith, again.0)), rw q (omega (arith, again.1)))
 
--- a line feed is found at place i, or the text ends there
-module _ (s : List ℕ) (i : ℕ) (p : past unbroken s 0 ≡ past unbroken s i) where
-  counted : past unbroken s i ≡ i → passing unbroken s ≡ i
-  unfolding past
-  counted e = let q = p in omega arith
-
-  pub line_ends : i < length s → line_feed (get_or s i 0) ≡ true → record { size = i; taken = i + 1 } ≡ first_line s
-  unfolding first_line
-  line_ends h b =
-      let c = line_counts s in
-      let k : min (i + 1) (length s) ≡ i + 1 = omega arith in
-      rw (c.0, c.1, counted (stops_here unbroken s i h (ap not b)), k)
-
-  pub text_ends : i ≤ length s → length s ≤ i → record { size = i; taken = i } ≡ first_line s
-  unfolding first_line
-  text_ends inside h =
-      let c = line_counts s in
-      let k : min (i + 1) (length s) ≡ i = omega arith in
-      rw (c.0, c.1, counted (ends_here unbroken s i h), k)
+pub first_line_found : (s : List ℕ) (n : ℕ) → n ≡ passing unbroken s → record { size = n; taken = min (length s) (n + 1) } ≡ first_line s
+unfolding first_line
+first_line_found s n e =
+    let c = line_counts s in
+    let k : min (length s) (passing unbroken s + 1) ≡ min (passing unbroken s + 1) (length s) = omega arith in
+    rw (e, c.0, c.1, k)

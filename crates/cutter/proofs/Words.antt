@@ -1,5 +1,5 @@
 -- The words of a line are where the cuts say.
-use Prim.Native.Nat.{ℕ, ◌+◌, ◌-◌, ◌≤◌}
+use Prim.Native.Nat.{ℕ, ◌-◌, ◌≤◌}
 use native.Mathlib.Numerals.{one-add}
 use native.Mathlib.Omega.{arith}
 use mathlib.Core.Path.{◌≡◌, refl, sym, ap, ◌∙◌, subst}
@@ -10,6 +10,7 @@ use lib.Seq.{drop-drop}
 use Rattle.model.proofs.Bools.{choose, or_then}
 use Rattle.notation.specs.Words.{line_in, line_feed, blank, mark, stops, words_of}
 use Rattle.notation.proofs.Words.{size_inside, Plain, Gap, past_blank, at_mark, no_words, word_first}
+use Rattle.cutter.proofs.Passing.{passes}
 use Rattle.cutter.specs.declared.Line.{Line}
 use Rattle.cutter.specs.declared.Word.{Word}
 use Rattle.cutter.specs.Cuts.{first_line, passing, past, plain, first_word}
@@ -65,11 +66,6 @@ first_and_rest (b ∷ r) e = go (stops b) refl
 -- THE WORD FROM A PLACE ON
 
 -- a cut goes forward, and stays inside
-passes : (test : ℕ → Bool) (s : List ℕ) → passing test s ≤ length s
-unfolding passing
-passes test [] = omega arith
-passes test (b ∷ s) = let i = passes test s in choose (λ (n : ℕ). n ≤ length (b ∷ s)) (test b) (1 + passing test s) 0 (λ q. omega arith) (λ q. omega arith)
-
 module _ (test : ℕ → Bool) (s : List ℕ) (i : ℕ) where
   forward : i ≤ past test s i
   unfolding past

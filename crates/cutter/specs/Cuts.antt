@@ -1,5 +1,5 @@
 -- Where lines and words begin and end, a step on the way: what the code's functions promise.
-use Rattle.std.specs.Prelude.{ℕ, ◌+◌, Bool, not, List, [], ◌∷◌, length, drop, if◌then◌else◌}
+use Rattle.std.specs.Prelude.{◌≡◌, ℕ, ◌+◌, Bool, not, List, [], ◌∷◌, length, drop, if◌then◌else◌}
 use Rattle.notation.specs.Words.{line_feed, line_in, size_in, blank, stops}
 use Rattle.cutter.specs.declared.Line.{Line}
 use Rattle.cutter.specs.declared.Word.{Word}
@@ -16,6 +16,10 @@ passing test (b ∷ s) = if test b then 1 + passing test s else 0
 -- the place behind them, from another on
 unfoldable pub past : (ℕ → Bool) → List ℕ → ℕ → ℕ
 past test s at = at + passing test (drop at s)
+
+-- the same, by what a test may answer of each byte
+unfoldable pub PastBy : (ℕ → Bool → Type 0) → List ℕ → ℕ → ℕ → Type 0
+PastBy answers s at place = (test : ℕ → Bool) → ((b : ℕ) (answer : Bool) → answers b answer → answer ≡ test b) → place ≡ past test s at
 
 -- a byte of a word, and one of a line
 abbrev pub plain : ℕ → Bool

@@ -3,17 +3,19 @@
 
 ghost use Rattle.std.specs.Prelude.{◌≡◌};
 ghost use Rattle.notation.specs.Words.{blank, stops};
-ghost use Rattle.cutter.specs.Cuts.{first_line, past, plain, first_word};
+ghost use Rattle.cutter.specs.Cuts.{first_line, PastBy, first_word};
 
-// The first line of a text: its bytes, and how many it takes with its line feed.
-#[derive(Clone, Copy)]
+// The first line of a text: its bytes, and how many it takes with its line feed. Lengths and not parts: the caller
+// counts what is taken of its text.
+#[derive(Clone, Copy, Debug, PartialEq, Eq)]
 pub struct Line {
     pub size: usize,
     pub taken: usize,
 }
 
-// A word of a line, from one place up to another; empty where there is none.
-#[derive(Clone, Copy)]
+// A word of a line, from one place up to another; empty where there is none. Places and not parts of the line: the next
+// word is looked for from the place behind, where there is none too, and a part or an `Option` would lose it.
+#[derive(Clone, Copy, Debug, PartialEq, Eq)]
 pub struct Word {
     pub from: usize,
     pub to: usize,
@@ -23,59 +25,33 @@ pub struct Word {
 pub fn line_in(text: &[u8]) -> Line
     ensures { result ≡ first_line text.now }
 {
-    let mut i = 0;
-    while i < text.len() {
-        let is_line_feed = text[i] == b'\n';
-        if is_line_feed {
-            return Line {
-                size: i,
-                taken: i + 1,
-            };
-        }
-        i += 1;
+    let size = text.iter().position(|b| *b == b'\n').unwrap_or(text.len());
+    Line {
+        size,
+        taken: text.len().min(size + 1),
     }
-    Line { size: i, taken: i }
 }
 
 // The first word of a line from a place on.
-#[tactic(auto, unfolding(crate::specs::Cuts::first_word))]
 pub fn word_from(line: &[u8], at: usize) -> Word
     ensures { result ≡ first_word line.now at }
 {
-    let from = past_blanks(line, at);
+    let from = past(line, at, is_blank);
     Word {
         from,
-        to: past_word(line, from),
+        to: past(line, from, |b| !is_stop(b)),
     }
 }
 
-// The place behind the blanks that stand from a place on.
-fn past_blanks(line: &[u8], at: usize) -> usize
-    ensures { result ≡ past blank line.now at }
+// The place behind the bytes that pass a test and stand from a place on.
+fn past<F: Fn(u8) -> bool>(line: &[u8], at: usize, passes: F) -> usize
+    requires { F.IsAlwaysCallable passes }
+    ensures { PastBy (F.post passes) line.now at result }
 {
-    let mut i = at;
-    while i < line.len() {
-        if is_blank(line[i]) {
-            i += 1;
-        } else {
-            return i;
-        }
-    }
-    i
-}
-
-// The place behind the bytes of a word that stand from a place on.
-fn past_word(line: &[u8], at: usize) -> usize
-    ensures { result ≡ past plain line.now at }
-{
-    let mut i = at;
-    while i < line.len() {
-        if is_stop(line[i]) {
-            return i;
-        }
-        i += 1;
-    }
-    i
+    let Some(rest) = line.get(at..) else {
+        return at;
+    };
+    at + rest.iter().position(|b| !passes(*b)).unwrap_or(rest.len())
 }
 
 // A space, a tab or a carriage return.

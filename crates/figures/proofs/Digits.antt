@@ -5,11 +5,13 @@ use native.Mathlib.Numerals.{add-one}
 use native.Mathlib.Omega.{arith}
 use mathlib.Core.Path.{◌≡◌, refl, sym, ap, ◌∙◌}
 use mathlib.Core.List.{List, [], ◌∷◌, ◌++◌}
-use mathlib.Core.Bool.{Bool, true, false, not, ◌&&◌, and-false}
+use mathlib.Core.Bool.{Bool, true, false, ◌&&◌, and-false}
 use lib.Dec.{eqb, leb}
+use Rattle.std.specs.Prelude.{Some, None, if◌then◌else◌}
+use Rattle.std.specs.List.{starts_with}
 use lib.ListN.{length, get_or, take, drop, length-drop}
 use lib.Seq.{take_all, take-suc, take-length}
-use borrow.Author.Tests.{ne_eqb, lt-ltb, le-ltb, leb-true, leb-false, lt-leb}
+use borrow.Author.Tests.{eq-eqb, ne_eqb, eqb-true, eqb-false, le-leb, lt-ltb, le-ltb, leb-true, leb-false, lt-leb}
 use Rattle.model.proofs.Bools.{and_l}
 use Rattle.spelling.specs.Text.{byte}
 use Rattle.spelling.specs.Numbers.{digit_in, all_digits, value_from, Number, number, none, spelled, marked, number_in}
@@ -54,7 +56,7 @@ no_digits base (x ∷ t) zero h k = rw (le-ltb (digit_in x) base k)
 no_digits base (x ∷ t) (suc i) h k = rw (no_digits base t i (omega arith) k, and-false)
 
 -- digits all through, and their number
-whole : (base : ℕ) (t : List ℕ) → all_digits base t ≡ true → record { value = min (value_from base 0 t) 4294967296; is_number = not (eqb (length t) 0) } ≡ value_of (spelled base t)
+whole : (base : ℕ) (t : List ℕ) → all_digits base t ≡ true → (if eqb (length t) 0 then None else Some (min (value_from base 0 t) 4294967296)) ≡ value_of (spelled base t)
 unfolding value_from spelled value_of
 whole base [] h = refl
 whole base (x ∷ t) h = rw (ne_eqb (length (x ∷ t)) 0 (λ z. omega arith), h)
@@ -69,19 +71,38 @@ module _ (base : ℕ) (t : List ℕ) (i value : ℕ) (s : Spelled base t i value
         held = rw (one, value_last base 0 (take i t) (get_or t i 0), p, s.held) (holds _ base _ b);
       }
 
-  pub stops : i < length t → base ≤ digit_in (get_or t i 0) → record { value = 0; is_number = false } ≡ value_of (spelled base t)
+  pub stops : i < length t → base ≤ digit_in (get_or t i 0) → None ≡ value_of (spelled base t)
   unfolding spelled value_of
   stops h k = rw (no_digits base t i h k, and-false)
 
-  pub ends : length t ≤ i → record { value = value; is_number = not (eqb i 0) } ≡ value_of (spelled base t)
-  ends h =
+  pub ends : length t ≤ i → (b : Bool) → b ≡ eqb (length t) 0 → (if b then None else Some value) ≡ value_of (spelled base t)
+  ends h b e =
       let inside = s.inside in
       let at_end : i ≡ length t = omega arith in
       let all : take i t ≡ t = ap (λ (j : ℕ). take j t) at_end ∙ take-length t in
       let digits : all_digits base t ≡ true = ap (all_digits base) (sym all) ∙ s.digits in
-      rw (s.held, all, at_end) (whole base t digits)
+      rw (e, s.held, all) (whole base t digits)
 
 -- BEHIND `0x`
+
+-- equality turned round, and a test that adds nothing
+turned : (a b : ℕ) → eqb a b ≡ eqb b a
+turned a b = go (eqb b a) refl
+  where
+    go : (t : Bool) → eqb b a ≡ t → eqb a b ≡ t
+    go true q = eq-eqb a b (sym (eqb-true b a q))
+    go false q = ne_eqb a b (λ e. eqb-false b a q (sym e))
+
+and_true : (b : Bool) → (b && true) ≡ b
+and_true true = refl
+and_true false = refl
+
+-- as `starts_with` tests it
+pub begins : (w : List ℕ) → starts_with eqb w (48 ∷ 120 ∷ []) ≡ marked w
+unfolding marked
+begins [] = refl
+begins (x ∷ []) = and-false (eqb 48 x)
+begins (x ∷ y ∷ t) = rw (le-leb 2 (length (x ∷ y ∷ t)) (omega arith), turned 48 x, turned 120 y, and_true)
 
 module _ (w : List ℕ) where
   pub long_enough : marked w ≡ true → 2 ≤ length w
@@ -109,7 +130,12 @@ same_word beyond n = go (leb n 65535) refl
     go true q = let l = leb-true n 65535 q in let same : min n 4294967296 ≡ n = omega arith in ap (word_for beyond) same
     go false q = let l = leb-false n 65535 q in rw (lt-leb (min n 4294967296) 65535 (omega arith), q)
 
-pub figure_for_lem : (beyond : ℕ) (n : Number) → record { word = word_for beyond (value_of n).value; is_good = (value_of n).is_number } ≡ figure_for beyond n
-unfolding value_of word_for figure_for
-figure_for_lem beyond (number n) = rw same_word
-figure_for_lem beyond none = refl
+pub figure_got : (beyond : ℕ) (n : Number) (v : ℕ) → value_of n ≡ Some v → Some (word_for beyond v) ≡ figure_for beyond n
+unfolding value_of figure_for
+figure_got beyond (number n) v h = let e : min n 4294967296 ≡ v = cc in rw (← e, same_word)
+figure_got beyond none v h = cc
+
+pub figure_lacks : (beyond : ℕ) (n : Number) → value_of n ≡ None → None ≡ figure_for beyond n
+unfolding value_of figure_for
+figure_lacks beyond (number n) h = cc
+figure_lacks beyond none h = refl

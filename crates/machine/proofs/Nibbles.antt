@@ -1,14 +1,14 @@
 -- The supported bays, the bays that hold a pack and the bay that is named, by their nibbles.
 use Prim.Native.Nat.{ℕ, ◌≤◌, ◌<◌}
-use mathlib.Core.Path.{◌≡◌, refl}
-use mathlib.Core.Bool.{Bool, true, false, cond, ◌||◌}
+use mathlib.Core.Path.{◌≡◌}
+use mathlib.Core.Bool.{false}
 use mathlib.Core.List.{List}
-use lib.Dec.{ltb, eqb}
+use lib.Dec.{ltb}
 use borrow.Author.Tests.{ltb-true, ltb-false}
 use Rattle.model.specs.declared.Bay.{Bay}
 use Rattle.model.specs.declared.Setup.{Setup}
-use Rattle.model.specs.Words.{bit, named, bay_number}
-use Rattle.model.specs.Bays.{empty_bay, bay_at, bay_named}
+use Rattle.model.specs.Words.{bit}
+use Rattle.model.specs.Bays.{bay_at}
 use Rattle.model.specs.Reads.{present_nibble}
 use Rattle.model.specs.Refusals.{supports, one_bay}
 use Rattle.words.specs.Masks.{among, one_of}
@@ -33,19 +33,3 @@ unfolding present_nibble bay_in
 present_in bays b =
     by_test (ltb b 4) (λ q. rw q (bit_four (λ b. (bay_at bays b).present) b (ltb-true b 4 q)))
     (λ q. rw q (past_four (present_nibble bays) b (four_lt (bay_at bays 0).present (bay_at bays 1).present (bay_at bays 2).present (bay_at bays 3).present) (ltb-false b 4 q)))
-
--- the bay that a nibble names, by four choices
-pub by_nibble : (bays : List Bay) (n : ℕ) →
-    cond (eqb n 1) (bay_at bays 0) (cond (eqb n 2) (bay_at bays 1) (cond (eqb n 4) (bay_at bays 2) (cond (eqb n 8) (bay_at bays 3) empty_bay)))
-    ≡ bay_named bays n
-unfolding bay_named named bay_number
-by_nibble bays n = go (eqb n 1) (eqb n 2) (eqb n 4) (eqb n 8)
-  where
-    go : (a b c d : Bool) →
-        cond a (bay_at bays 0) (cond b (bay_at bays 1) (cond c (bay_at bays 2) (cond d (bay_at bays 3) empty_bay)))
-        ≡ cond (a || b || c || d) (bay_at bays (cond a 0 (cond b 1 (cond c 2 3)))) empty_bay
-    go true b c d = refl
-    go false true c d = refl
-    go false false true d = refl
-    go false false false true = refl
-    go false false false false = refl

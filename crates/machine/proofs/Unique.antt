@@ -11,8 +11,6 @@ use Rattle.machine.proofs.is_bad.Kinds as is_bad_kinds
 use Rattle.machine.proofs.is_bad.Reads as is_bad_reads
 use Rattle.machine.proofs.empty_bay.Kinds as empty_bay_kinds
 use Rattle.machine.proofs.empty_bay.Reads as empty_bay_reads
-use Rattle.machine.proofs.choose_bay.Kinds as choose_bay_kinds
-use Rattle.machine.proofs.choose_bay.Reads as choose_bay_reads
 use Rattle.machine.proofs.named_bay.Kinds as named_bay_kinds
 use Rattle.machine.proofs.named_bay.Reads as named_bay_reads
 use Rattle.machine.proofs.present_nibble.Kinds as present_nibble_kinds
@@ -40,9 +38,6 @@ is_bad_one κs a x y s t p q = p ∙ sym q
 
 pub empty_bay_one : OneOutcome empty_bay_kinds.ps empty_bay_kinds.r empty_bay_reads.Post
 empty_bay_one κs a x y s t p q = p ∙ sym q
-
-pub choose_bay_one : OneOutcome choose_bay_kinds.ps choose_bay_kinds.r choose_bay_reads.Post
-choose_bay_one κs a x y s t p q = p ∙ sym q
 
 pub named_bay_one : OneOutcome named_bay_kinds.ps named_bay_kinds.r named_bay_reads.Post
 named_bay_one κs a x y s t p q = p ∙ sym q

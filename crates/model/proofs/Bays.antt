@@ -1,4 +1,5 @@
 -- The bays, and what the past says of each: its pack and its reading.
+use Rattle.std.specs.Prelude.{Option}
 use Prim.Native.Nat.{ℕ, zero, suc, ◌<◌}
 use mathlib.Core.Path.{◌≡◌, refl}
 use mathlib.Core.Bool.{Bool, true, false, cond, ◌&&◌, ◌||◌, and-true, and-false, true≢false}
@@ -8,7 +9,6 @@ use native.Mathlib.Omega.{arith}
 use Rattle.model.specs.declared.Setup.{Setup}
 use Rattle.model.specs.declared.Bay.{Bay}
 use Rattle.model.specs.declared.Event.{Event}
-use Rattle.model.specs.declared.Reading.{Reading}
 use Rattle.model.specs.declared.Machine.{Machine}
 use Rattle.model.specs.Words.{named, bay_number}
 use Rattle.model.specs.Events.{presets_word, insertion, removal, signal, terminal, is, is_at, at_bay, word_of, bay_of}
@@ -103,7 +103,7 @@ present_at bays n h a = go (named n)
     go false = refl
 
 -- what the signal of the bay that a nibble names allows, where that bay holds a pack
-pub signal_at : (allowing : Reading → Bool) (bays : List Bay) (n : ℕ) (h : Past) (first : Bool) → BaysAgree bays h →
+pub signal_at : (allowing : Option ℕ → Bool) (bays : List Bay) (n : ℕ) (h : Past) (first : Bool) → BaysAgree bays h →
     (first && pack_at n h && allowing (bay_named bays n).reading) ≡ (first && pack_at n h && allowing (reading (bay_number n) h))
 unfolding bay_named pack_at
 signal_at allowing bays n h first a = go (named n)

@@ -21,3 +21,4 @@ pub mod Candidates
 pub mod Settled
 pub mod Theorems
 pub mod Outcomes
+pub mod Unique

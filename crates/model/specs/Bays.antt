@@ -1,8 +1,6 @@
 -- The four bays: the one that a nibble names, what a candidate is, and what an event leaves in each.
-use Rattle.std.specs.Prelude.{ℕ, Bool, true, false, not, ◌&&◌, List, [], ◌∷◌, ltb, leb, eqb, get_or, if◌then◌else◌}
+use Rattle.std.specs.Prelude.{Option, None, Some, ℕ, Bool, true, false, not, ◌&&◌, List, [], ◌∷◌, ltb, leb, eqb, get_or, if◌then◌else◌}
 use Rattle.model.specs.declared.Setup.{Setup}
-use Rattle.model.specs.declared.Reading.{Reading}
-use Rattle.model.specs.declared.Reading.TheVariants.{Unread, Ohms}
 use Rattle.model.specs.declared.Bay.{Bay}
 use Rattle.model.specs.declared.Event.{Event}
 use Rattle.model.specs.Words.{named, bay_number, ok_in}
@@ -10,7 +8,7 @@ use Rattle.model.specs.Events.{presets_word, insertion, removal, signal, termina
 
 -- an empty bay
 abbrev pub empty_bay : Bay
-empty_bay = record { present = false; ok = false; low = false; reading = Unread }
+empty_bay = record { present = false; ok = false; low = false; reading = None }
 
 -- bay number b
 unfoldable pub bay_at : List Bay → ℕ → Bay
@@ -50,11 +48,11 @@ low_after s e bay =
     else bay.low
 
 -- a reading counts since insertion
-unfoldable pub reading_after : Event → Bay → Reading
+unfoldable pub reading_after : Event → Bay → Option ℕ
 reading_after e bay =
-    if is insertion e then Unread
-    else if is removal e then Unread
-    else if is signal e then Ohms (word_of e)
+    if is insertion e then None
+    else if is removal e then None
+    else if is signal e then Some (word_of e)
     else bay.reading
 
 -- the four together

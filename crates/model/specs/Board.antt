@@ -1,8 +1,6 @@
 -- The analogue board's two rules: how a request is limited, and what a reading of the safety signal means.
-use Rattle.std.specs.Prelude.{ℕ, min, ◌+◌, ◌^◌, Bool, true, false, List, [], ◌∷◌, ltb, eqb, if◌then◌else◌}
+use Rattle.std.specs.Prelude.{Option, None, Some, ℕ, min, ◌+◌, ◌^◌, Bool, true, false, List, [], ◌∷◌, ltb, eqb, if◌then◌else◌}
 use Rattle.model.specs.declared.Limit.{Limit}
-use Rattle.model.specs.declared.Reading.{Reading}
-use Rattle.model.specs.declared.Reading.TheVariants.{Unread, Ohms}
 use Rattle.model.specs.declared.Class.{Class}
 use Rattle.model.specs.declared.Class.TheVariants.{Under, Hot, Plain, Cold, Over}
 use Rattle.model.specs.declared.Edge.{Edge}
@@ -36,9 +34,9 @@ unfoldable pub class_of : ℕ → Class
 class_of ohms = walk edges ohms
 
 -- unread counts as over range
-abbrev pub class_read : Reading → Class
-class_read Unread = Over
-class_read (Ohms ohms) = class_of ohms
+abbrev pub class_read : Option ℕ → Class
+class_read None = Over
+class_read (Some ohms) = class_of ohms
 
 -- requested charge is allowed in plain and COLD, and under range, where a pack has a fixed resistor
 abbrev pub allowed : Class → Bool
@@ -57,11 +55,11 @@ allowed_to_wake Cold = true
 allowed_to_wake Over = false
 
 -- a reading allows requested charge
-unfoldable pub allows : Reading → Bool
+unfoldable pub allows : Option ℕ → Bool
 allows r = allowed (class_read r)
 
 -- a reading allows wake-up
-unfoldable pub allows_to_wake : Reading → Bool
+unfoldable pub allows_to_wake : Option ℕ → Bool
 allows_to_wake r = allowed_to_wake (class_read r)
 
 -- the status bits 8 OR, 9 COLD, 10 HOT, 11 UR of a class

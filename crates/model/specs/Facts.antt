@@ -1,9 +1,7 @@
 -- The eight facts, and those of the wake pair, told from the events and their answers alone. No register is named here.
-use Rattle.std.specs.Prelude.{ℕ, suc, ◌<◌, ◌≡◌, Bool, true, false, not, ◌&&◌, ◌||◌, List, [], ◌∷◌, ltb, eqb, if◌then◌else◌}
+use Rattle.std.specs.Prelude.{Option, None, Some, ℕ, suc, ◌<◌, ◌≡◌, Bool, true, false, not, ◌&&◌, ◌||◌, List, [], ◌∷◌, ltb, eqb, if◌then◌else◌}
 use Rattle.model.specs.declared.Setup.{Setup}
 use Rattle.model.specs.declared.Event.{Event}
-use Rattle.model.specs.declared.Reading.{Reading}
-use Rattle.model.specs.declared.Reading.TheVariants.{Unread, Ohms}
 use Rattle.model.specs.declared.Output.{Output}
 use Rattle.model.specs.Numbers.{Said, done, word, refused}
 use Rattle.model.specs.Words.{bit, named, bay_number, alarming, charge_in, ok_in}
@@ -80,12 +78,12 @@ connected (e ∷ h) =
     else connected h
 
 -- the latest reading of bay b since insertion
-unfoldable pub reading : ℕ → Past → Reading
-reading b [] = Unread
+unfoldable pub reading : ℕ → Past → Option ℕ
+reading b [] = None
 reading b (e ∷ h) =
-    if is_at insertion b e then Unread
-    else if is_at removal b e then Unread
-    else if is_at signal b e then Ohms (word_of e)
+    if is_at insertion b e then None
+    else if is_at removal b e then None
+    else if is_at signal b e then Some (word_of e)
     else reading b h
 
 -- the latest ChargerMode word had bit 0 clear or bit 2 set, or there was none

@@ -1,7 +1,5 @@
 -- Machines handed in, at the edges of 15 and, by their setups, of 1: each is a power-on machine with one part changed.
-use Rattle.std.specs.Prelude.{ℕ, Bool, true, false, List, [], ◌∷◌, set}
-use Rattle.model.specs.declared.Reading.{Reading}
-use Rattle.model.specs.declared.Reading.TheVariants.{Unread, Ohms}
+use Rattle.std.specs.Prelude.{Option, None, Some, ℕ, Bool, true, false, List, [], ◌∷◌, set}
 use Rattle.model.specs.declared.Machine.{Machine}
 use Rattle.model.specs.Machines.{setup_of, program_setup, power_on, with_bays, with_charger, with_selector}
 use Rattle.model.specs.Refusals.{bad_machine}
@@ -23,7 +21,7 @@ ages_so current voltage wake =
     })
 
 -- bay b so: present, OK, low and its reading
-abbrev pub bay_so : ℕ → Bool → Bool → Bool → Reading → Machine
+abbrev pub bay_so : ℕ → Bool → Bool → Bool → Option ℕ → Machine
 bay_so b present ok low reading =
     with_bays (power_on program_setup) (set (power_on program_setup).bays b (record { present = present; ok = ok; low = low; reading = reading }))
 
@@ -54,8 +52,8 @@ good_ones =
     ∷ nibbles_so 1 1 2 2
     ∷ nibbles_so 2 2 2 1
     ∷ ages_so 175 175 175
-    ∷ bay_so 0 true false true Unread
-    ∷ bay_so 1 true true false (Ohms 4294967295)
+    ∷ bay_so 0 true false true None
+    ∷ bay_so 1 true true false (Some 4294967295)
     ∷ supported_so 1
     ∷ supported_so 7
     ∷ supported_so 15
@@ -84,12 +82,12 @@ bad_ones =
     ∷ ages_so 0 176 0
     ∷ ages_so 0 0 176
     -- presence of an unsupported bay
-    ∷ bay_so 2 true false false Unread
-    ∷ bay_so 3 true true false Unread
+    ∷ bay_so 2 true false false None
+    ∷ bay_so 3 true true false None
     -- an OK mark, low mark or reading at an absent one
-    ∷ bay_so 0 false true false Unread
-    ∷ bay_so 1 false false true Unread
-    ∷ bay_so 2 false false false (Ohms 10000)
+    ∷ bay_so 0 false true false None
+    ∷ bay_so 1 false false true None
+    ∷ bay_so 2 false false false (Some 10000)
     -- a setup that 1 refuses
     ∷ supported_so 0
     ∷ supported_so 2

@@ -1,8 +1,7 @@
 -- What the machine shows: its output, and the words that the host reads.
-use Rattle.std.specs.Prelude.{ℕ, ◌+◌, ◌^◌, Bool, true, not, ◌&&◌, ◌||◌, List, ltb, eqb, if◌then◌else◌}
+use Rattle.std.specs.Prelude.{Option, ℕ, ◌+◌, ◌^◌, Bool, true, not, ◌&&◌, ◌||◌, List, ltb, eqb, if◌then◌else◌}
 use Rattle.model.specs.declared.Limit.{Limit}
 use Rattle.model.specs.declared.Bay.{Bay}
-use Rattle.model.specs.declared.Reading.{Reading}
 use Rattle.model.specs.declared.Machine.{Machine}
 use Rattle.model.specs.declared.Output.{Output}
 use Rattle.model.specs.declared.Event.{Event}
@@ -16,7 +15,7 @@ abbrev pub charge_bay : Machine → Bay
 charge_bay m = bay_named m.bays m.selector.charge
 
 -- AC and the CHARGE bay are present, its signal allows what is to flow, there is no inhibit or hold
-unfoldable pub ready : (Reading → Bool) → Machine → Bool
+unfoldable pub ready : (Option ℕ → Bool) → Machine → Bool
 ready allowing m =
     m.ac
     && (charge_bay m).present

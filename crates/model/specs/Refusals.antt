@@ -1,9 +1,7 @@
 -- What is refused, and by which number: each condition by itself, then the numbers in the paper's order.
-use Rattle.std.specs.Prelude.{ℕ, Bool, true, false, not, ◌&&◌, ◌||◌, List, ltb, leb, eqb, if◌then◌else◌}
+use Rattle.std.specs.Prelude.{Option, None, Some, ℕ, Bool, true, false, not, ◌&&◌, ◌||◌, List, ltb, leb, eqb, if◌then◌else◌}
 use Rattle.model.specs.declared.Limit.{Limit}
 use Rattle.model.specs.declared.Setup.{Setup}
-use Rattle.model.specs.declared.Reading.{Reading}
-use Rattle.model.specs.declared.Reading.TheVariants.{Unread, Ohms}
 use Rattle.model.specs.declared.Bay.{Bay}
 use Rattle.model.specs.declared.Machine.{Machine}
 use Rattle.model.specs.declared.Event.{Event}
@@ -58,9 +56,9 @@ unfoldable pub over_age : Machine → Bool
 over_age m = ltb 175 m.charger.current.age || ltb 175 m.charger.voltage.age || ltb 175 m.charger.wake.age
 
 -- there is a reading
-abbrev pub was_read : Reading → Bool
-was_read Unread = false
-was_read (Ohms ohms) = true
+abbrev pub was_read : Option ℕ → Bool
+was_read None = false
+was_read (Some ohms) = true
 
 -- presence of an unsupported bay, or an OK mark, low mark or reading at an absent one
 unfoldable pub stray_bay : Setup → ℕ → Bay → Bool

@@ -5,4 +5,5 @@ pub mod Enough
 pub mod Going
 pub mod Inside
 pub mod Entry
+pub mod Values
 pub mod Unique

@@ -1,5 +1,6 @@
 pub mod Put
 pub mod Digits
 pub mod Room
-pub mod Chained
 pub mod Unique
+pub mod Moves
+pub mod Chained

@@ -51,15 +51,5 @@ fn show(rt: HostRuntime, name: &str, setup: Setup) {
 
 // A setup that is refused.
 fn without_bays(s: Setup) -> Setup {
-    let current = s.current;
-    let voltage = s.voltage;
-    let wake = s.wake;
-    Setup {
-        supported: 0,
-        current,
-        voltage,
-        low: s.low,
-        restart: s.restart,
-        wake,
-    }
+    Setup { supported: 0, ..s }
 }

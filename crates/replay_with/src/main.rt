@@ -2,83 +2,117 @@
 // safe mA, largest and safe mV, low and restart level in mV, wake current in mA and wake voltage in mV.
 #![tactic(auto)]
 
-use figures::{Figure, figure_in, no_figure};
+use figures::figure_in;
 use model::{Limit, Output, Setup};
 use std::env::FillError;
 use std::rt::Env;
 use window::say;
 
-// For a number above 65535 a word stands that is refused in its place: 0, but 65535 for the wake current, which may be 0.
-const NONE: u16 = 0;
+// A place of the setup: how messages name it, and the word that stands for a number above 65535. Each place refuses
+// that word as it would the number: 0, but 65535 for the wake current, which may be 0.
+#[derive(Clone, Copy, Debug, PartialEq, Eq)]
+struct Place {
+    name: &'static [u8],
+    beyond: u16,
+}
 
-const TOO_MUCH: u16 = 65535;
+// The places, in the order of the arguments.
+const PLACES: [Place; 9] = [
+    Place {
+        name: b"bays",
+        beyond: 0,
+    },
+    Place {
+        name: b"largest mA",
+        beyond: 0,
+    },
+    Place {
+        name: b"safe mA",
+        beyond: 0,
+    },
+    Place {
+        name: b"largest mV",
+        beyond: 0,
+    },
+    Place {
+        name: b"safe mV",
+        beyond: 0,
+    },
+    Place {
+        name: b"low mV",
+        beyond: 0,
+    },
+    Place {
+        name: b"restart mV",
+        beyond: 0,
+    },
+    Place {
+        name: b"wake mA",
+        beyond: 65535,
+    },
+    Place {
+        name: b"wake mV",
+        beyond: 0,
+    },
+];
 
 fn main(rt: HostRuntime) {
-    let bays = argument(rt, 1, b"bays", NONE);
-    let largest_ma = argument(rt, 2, b"largest mA", NONE);
-    let safe_ma = argument(rt, 3, b"safe mA", NONE);
-    let largest_mv = argument(rt, 4, b"largest mV", NONE);
-    let safe_mv = argument(rt, 5, b"safe mV", NONE);
-    let low = argument(rt, 6, b"low mV", NONE);
-    let restart = argument(rt, 7, b"restart mV", NONE);
-    let wake_ma = argument(rt, 8, b"wake mA", TOO_MUCH);
-    let wake_mv = argument(rt, 9, b"wake mV", NONE);
-    let are_limits = largest_ma.is_good & safe_ma.is_good & largest_mv.is_good & safe_mv.is_good;
-    let are_others = bays.is_good
-        & low.is_good
-        & restart.is_good
-        & wake_ma.is_good
-        & wake_mv.is_good;
-    if !(are_limits & are_others & are_nine(rt)) {
+    let Some(setup) = setup_given(rt) else {
         say_usage(rt);
         return;
-    }
-    let current = Limit {
-        largest: largest_ma.word,
-        safe: safe_ma.word,
-    };
-    let voltage = Limit {
-        largest: largest_mv.word,
-        safe: safe_mv.word,
-    };
-    let wake = Output {
-        milliamps: wake_ma.word,
-        millivolts: wake_mv.word,
-    };
-    let setup = Setup {
-        supported: bays.word,
-        current: current,
-        voltage: voltage,
-        low: low.word,
-        restart: restart.word,
-        wake: wake,
     };
     stream::replay(setup, &mut rt.stdin(), &mut rt.stdout(), &mut rt.stderr());
 }
 
-// An argument as a number; what is wrong with it is said.
-fn argument(rt: HostRuntime, i: usize, name: &[u8], beyond: u16) -> Figure {
-    let mut text = [0u8; 4096];
-    let n = match rt.arg(i, &mut text) {
-        Ok(n) => n,
-        Err(FillError::NotPresent) => {
-            complain(rt, name, b" is missing\n");
-            return no_figure();
-        }
-        Err(FillError::TooLong) => {
-            complain(rt, name, b" is too long\n");
-            return no_figure();
-        }
-    };
-    let figure = figure_in(&text[..n], beyond);
-    if !figure.is_good {
-        if n == 0 {
-            complain(rt, name, b" is empty\n");
-        } else {
-            complain(rt, name, b" is no decimal number\n");
-        }
+// The setup that the arguments give. What is wrong is said of each of them.
+fn setup_given(rt: HostRuntime) -> Option<Setup> {
+    let [
+        bays,
+        largest_ma,
+        safe_ma,
+        largest_mv,
+        safe_mv,
+        low,
+        restart,
+        wake_ma,
+        wake_mv,
+    ]: [Option<u16>; 9] = std::array::from_fn(|i| argument(rt, i + 1, &PLACES[i]));
+    if !are_nine(rt) {
+        return None;
     }
-    figure
+    Some(Setup {
+        supported: bays?,
+        current: Limit {
+            largest: largest_ma?,
+            safe: safe_ma?,
+        },
+        voltage: Limit {
+            largest: largest_mv?,
+            safe: safe_mv?,
+        },
+        low: low?,
+        restart: restart?,
+        wake: Output {
+            milliamps: wake_ma?,
+            millivolts: wake_mv?,
+        },
+    })
+}
+
+// An argument as a number; what is wrong with it is said. The buffer is of a fixed size: no heap can run out.
+fn argument(rt: HostRuntime, i: usize, place: &Place) -> Option<u16> {
+    let mut text = [0u8; 4096];
+    let wrong: &[u8] = match rt.arg(i, &mut text) {
+        Err(FillError::NotPresent) => b" is missing\n",
+        Err(FillError::TooLong) => b" is too long\n",
+        Ok(0) => b" is empty\n",
+        Ok(n) => match figure_in(&text[..n], place.beyond) {
+            Some(word) => return Some(word),
+            None => b" is no decimal number\n",
+        },
+    };
+    complain(rt, place.name, wrong);
+    None
 }
 
 fn complain(rt: HostRuntime, name: &[u8], what: &[u8]) {
@@ -91,13 +125,11 @@ fn complain(rt: HostRuntime, name: &[u8], what: &[u8]) {
 // No argument follows the ninth.
 fn are_nine(rt: HostRuntime) -> bool {
     let mut text = [0u8; 1];
-    match rt.arg(10, &mut text) {
-        Err(FillError::NotPresent) => true,
-        _ => {
-            say(&mut rt.stderr(), b"replay_with: more than nine arguments\n");
-            false
-        }
+    let none_follows = matches!(rt.arg(10, &mut text), Err(FillError::NotPresent));
+    if !none_follows {
+        say(&mut rt.stderr(), b"replay_with: more than nine arguments\n");
     }
+    none_follows
 }
 
 fn say_usage(rt: HostRuntime) {

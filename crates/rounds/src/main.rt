@@ -3,14 +3,14 @@
 // all rounds, the sum of the answers or of the bytes read as four hex digits, and what the board has to drive at the end.
 #![tactic(auto)]
 
-use figures::{Figure, figure_in};
-use layout::{Found, Written};
-use model::{Answer, Machine};
+use figures::figure_in;
+use layout::Record;
+use model::{Answer, Machine, Stepped};
 use std::rt::Env;
 use window::{read_full, say};
 
 // What the rounds came to: the machine, how many records, and the sum.
-#[derive(Clone, Copy)]
+#[derive(Clone, Copy, Debug, PartialEq, Eq)]
 struct Total {
     pub machine: Machine,
     pub records: u64,
@@ -23,37 +23,37 @@ fn main(rt: HostRuntime) {
     let _ = rt.arg(1, &mut mode);
     let letter = mode[0];
     let is_stepping = letter == b's';
-    let count = count_given(rt);
-    if !(count.is_good & (is_stepping | (letter == b'r'))) {
-        say(&mut rt.stderr(), b"usage: rounds read|step COUNT < LOG\n");
-        return;
-    }
+    let count = match count_given(rt) {
+        Some(count) if is_stepping | (letter == b'r') => count,
+        _ => {
+            say(&mut rt.stderr(), b"usage: rounds read|step COUNT < LOG\n");
+            return;
+        }
+    };
     let mut log = [0u8; 65536];
     let size = read_full(&mut rt.stdin(), &mut log);
-    print(rt, all_rounds(&log[0..size], count.word, is_stepping));
+    print(rt, all_rounds(&log[0..size], count, is_stepping));
 }
 
-// So many rounds, from power-on.
+// So many rounds, from power-on. Whether the machine is stepped is a truth value, asked at each record: handed in as a
+// closure the step would be set in at another place than it was measured at so far.
 #[inline(always)]
 fn all_rounds(log: &[u8], count: u16, is_stepping: bool) -> Total {
-    let start = shelf::power_on(shelf::program_setup());
-    let machine = start.machine;
+    let Stepped { machine, .. } = shelf::power_on(shelf::program_setup());
     let mut total = Total {
         machine,
         records: 0,
         sum: 0,
     };
-    let mut left = count;
-    while 0 < left {
+    for _ in 0..count {
         total = go_round(total, log, is_stepping);
-        left -= 1;
     }
     total
 }
 
 // The second argument.
 #[inline(always)]
-fn count_given(rt: HostRuntime) -> Figure {
+fn count_given(rt: HostRuntime) -> Option<u16> {
     let mut text = [0u8; 4096];
     let n = rt.arg(2, &mut text).unwrap_or(0);
     figure_in(&text[..n], 0)
@@ -62,24 +62,21 @@ fn count_given(rt: HostRuntime) -> Figure {
 // One round: up to the first bad record or the end.
 #[inline(always)]
 fn go_round(total: Total, log: &[u8], is_stepping: bool) -> Total {
-    let mut machine = total.machine;
-    let mut records = total.records;
-    let mut sum = total.sum;
+    let Total {
+        mut machine,
+        mut records,
+        mut sum,
+    } = total;
     let mut rest = log;
-    while 0 < rest.len() {
-        let found = reader::read(rest);
-        let Found::Record { event, taken } = found else {
-            return Total {
-                machine,
-                records,
-                sum,
-            };
+    // Whether a byte is left is asked first: with `while let` alone a record costs up to a twentieth more.
+    while !rest.is_empty() {
+        let Ok(Record { event, taken }) = reader::read(rest) else {
+            break;
         };
         if is_stepping {
             let stepped = shelf::step(machine, event);
             machine = stepped.machine;
-            let answer = stepped.answer;
-            sum = sum.wrapping_add(value_of(answer));
+            sum = sum.wrapping_add(value_of(stepped.answer));
         } else {
             sum = sum.wrapping_add(taken as u16);
         }
@@ -99,7 +96,7 @@ fn value_of(answer: Answer) -> u16 {
     match answer {
         Answer::Done => 0,
         Answer::Word(word) => word,
-        Answer::Refused(why) => refusals::number(why) as u16,
+        Answer::Refused(why) => u8::from(why) as u16,
     }
 }
 
@@ -116,7 +113,7 @@ fn print(rt: HostRuntime, total: Total) {
         charger::output_of(machine),
         machine.notice,
     );
-    let Written::UpTo(end) = put else {
+    let Ok(end) = put else {
         return;
     };
     if end <= 4096 {

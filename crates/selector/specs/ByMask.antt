@@ -1,10 +1,19 @@
 -- The selector's rules read by mask, as proofs/ByMask.antt shows.
-use Rattle.std.specs.Prelude.{ℕ, Bool, not, ◌&&◌, ◌||◌, List, eqb, if◌then◌else◌}
+use Rattle.std.specs.Prelude.{◌≡◌, ℕ, Bool, not, ◌&&◌, ◌||◌, List, eqb, if◌then◌else◌}
 use Rattle.model.specs.declared.Bay.{Bay}
 use Rattle.model.specs.declared.Machine.{Machine}
 use Rattle.model.specs.Bays.{bay_at, candidate}
 use Rattle.model.specs.Reads.{may_follow}
 use Rattle.words.specs.Masks.{four, among, one_of, first_in}
+
+-- a mask of what a test may answer of each bay
+pub record MaskOf (answers : Bay → Bool → Type 0) (bays : List Bay) (mask : ℕ) : Type 0 where
+  pub first : Bool
+  pub second : Bool
+  pub third : Bool
+  pub fourth : Bool
+  pub tested : answers (bay_at bays 0) first × answers (bay_at bays 1) second × answers (bay_at bays 2) third × answers (bay_at bays 3) fourth
+  pub is : mask ≡ four first second third fourth
 
 -- the low marks: a bit for each bay
 unfoldable pub low_nibble : List Bay → ℕ

@@ -11,10 +11,10 @@ ghost use Rattle.model.specs.Settling as settling;
 ghost use Rattle.model.specs.Reads.{shown_power, state_shown, ok_nibble, shown_next, presets_shown, info_shown};
 ghost use Rattle.model.specs.Refusals.{one_bay, formed, state_formed, names_bay, smb_elsewhere, not_usable, same_bay};
 ghost use Rattle.words.specs.Masks.{among};
-ghost use Rattle.selector.specs.ByMask.{low_nibble, candidate_nibble, follower_nibble, kept_in, taken_from, settled_by};
+ghost use Rattle.selector.specs.ByMask.{MaskOf, low_nibble, candidate_nibble, follower_nibble, kept_in, taken_from, settled_by};
 ghost use Rattle.selector.specs.ByEvent.{kept_charge};
 
-use model::{Bay, Machine, Selector, Setup};
+use model::{Bay, Machine, Output, Selector, Setup};
 
 // The lowest bit of each nibble of a SelectorState word that is written, and of USE_NEXT in a SelectorPresets word.
 const SMB: u16 = 12;
@@ -25,21 +25,31 @@ const CHARGE: u16 = 4;
 
 const USE_NEXT: u16 = 4;
 
+// The bays that pass a test, as a mask. By index: the mask is put together of four truth values, and here alone.
+#[inline(always)]
+fn mask_of<F: Fn(Bay) -> bool>(bays: [Bay; 4], test: F) -> u16
+    requires { F.IsAlwaysCallable test }
+    ensures { MaskOf (F.post test) bays result }
+{
+    words::mask(test(bays[0]), test(bays[1]), test(bays[2]), test(bays[3]))
+}
+
 // The bays that are OK to use.
 fn ok_nibble(bays: [Bay; 4]) -> u16
     ensures { result ≡ ok_nibble bays }
 {
-    words::mask(bays[0].ok, bays[1].ok, bays[2].ok, bays[3].ok)
+    mask_of(bays, |bay| bay.ok)
 }
 
 // The bays that are low.
 fn low_nibble(bays: [Bay; 4]) -> u16
     ensures { (result ≡ low_nibble bays) × (result ≤ 15) }
 {
-    words::mask(bays[0].low, bays[1].low, bays[2].low, bays[3].low)
+    mask_of(bays, |bay| bay.low)
 }
 
-// The bays that are candidates: present, OK and not low.
+// The bays that are candidates: present, OK and not low. By three masks: one test of all three marks costs 2 to 6 %
+// of a step.
 fn candidate_nibble(bays: [Bay; 4]) -> u16
     ensures { result ≡ candidate_nibble bays }
 {
@@ -50,17 +60,23 @@ fn candidate_nibble(bays: [Bay; 4]) -> u16
 fn keep_in(mask: u16, n: u16) -> u16
     ensures { result ≡ kept_in mask n }
 {
-    words::choose(words::is_one_of(mask, n), n, 0)
+    if words::is_one_of(mask, n) { n } else { 0 }
 }
 
 // The wanted bay if it is in the mask, else the mask's first by letter, else 0.
+#[tactic(auto, unfolding(crate::specs::ByMask::taken_from))]
 fn take_from(mask: u16, wanted: u16) -> u16
     ensures { result ≡ taken_from mask wanted }
 {
-    words::choose(words::is_among(mask, wanted), wanted, words::first_in(mask))
+    if words::is_among(mask, wanted) {
+        wanted
+    } else {
+        words::first_in(mask)
+    }
 }
 
 // Enough for the three steps to change nothing: POWER_BY names a candidate, or is 0 beside AC, and SMB is 0 or names a bay that is present.
+#[tactic(auto, unfolding(crate::specs::ByMask::settled_by))]
 fn is_settled(m: Machine, candidates: u16, present: u16) -> bool
     ensures { result ≡ settled_by m candidates present }
 {
@@ -87,19 +103,19 @@ pub fn settle(m: Machine) -> Machine
         power,
         keep_in(present, m.selector.smb),
     );
-    let selector = Selector {
-        smb: smb,
-        power: power,
-        charge: m.selector.charge,
-        next: m.selector.next,
-    };
-    let mut n = m;
-    n.selector = selector;
-    n.notice = m.notice | (power != m.selector.power);
-    n
+    Machine {
+        selector: Selector {
+            smb,
+            power,
+            ..m.selector
+        },
+        notice: m.notice | (power != m.selector.power),
+        ..m
+    }
 }
 
 // Whether a nibble of a SelectorState word is 0xF, 0 or one supported bay.
+#[tactic(auto, unfolding(model::specs::Refusals::formed))]
 fn is_formed(s: Setup, n: u16) -> bool
     ensures { result ≡ formed s n }
 {
@@ -107,6 +123,7 @@ fn is_formed(s: Setup, n: u16) -> bool
 }
 
 // Whether each nibble of a SelectorState word is 0xF, 0 or one supported bay: refusal 5 where not.
+#[tactic(auto, unfolding(model::specs::Refusals::state_formed))]
 pub fn is_state_formed(s: Setup, word: u16) -> bool
     ensures { result ≡ state_formed s word }
 {
@@ -130,6 +147,7 @@ fn names_bay(n: u16) -> bool
 }
 
 // Whether POWER_BY names a bay and SMB is not the same: refusal 6.
+#[tactic(auto, unfolding(model::specs::Refusals::smb_elsewhere))]
 pub fn is_smb_elsewhere(word: u16) -> bool
     ensures { result ≡ smb_elsewhere word }
 {
@@ -138,6 +156,7 @@ pub fn is_smb_elsewhere(word: u16) -> bool
 }
 
 // Whether a bay that the word names, or AC, is not usable: refusal 7.
+#[tactic(auto, unfolding(model::specs::Refusals::not_usable), using(crate::proofs::ByMask::present_among, crate::proofs::ByMask::ok_among, crate::proofs::ByMask::candidate_among))]
 pub fn is_not_usable(m: Machine, word: u16) -> bool
     ensures { result ≡ not_usable m word }
 {
@@ -153,13 +172,15 @@ pub fn is_not_usable(m: Machine, word: u16) -> bool
 }
 
 // A nibble of a SelectorState word over the one that stands: 0xF means unchanged.
+#[tactic(auto, unfolding(model::specs::SelectorRules::written))]
 fn write_over(n: u16, standing: u16) -> u16
     ensures { result ≡ written n standing }
 {
-    words::choose(n == 15, standing, n)
+    if n == 15 { standing } else { n }
 }
 
 // Whether POWER_BY or CHARGE was written and both would name one bay: refusal 8.
+#[tactic(auto, unfolding(model::specs::Refusals::same_bay))]
 pub fn is_same_bay(m: Machine, word: u16) -> bool
     ensures { result ≡ same_bay m word }
 {
@@ -170,90 +191,95 @@ pub fn is_same_bay(m: Machine, word: u16) -> bool
 }
 
 // The machine after an accepted SelectorState word, before it settles.
+#[tactic(auto, unfolding(crate::specs::ByEvent::state_set), using(crate::proofs::ByEvent::on_state))]
 pub fn set_state(m: Machine, word: u16) -> Machine
     ensures { result ≡ act m (event.HostWrite 0x14 0x01 word) }
 {
     let smb = write_over(words::nibble(word, SMB), m.selector.smb);
     let power = write_over(words::nibble(word, POWER_BY), m.selector.power);
     let charge = write_over(words::nibble(word, CHARGE), m.selector.charge);
-    let selector = Selector {
-        smb: smb,
-        power: power,
-        charge: charge,
-        next: m.selector.next,
-    };
-    let mut n = m;
-    n.charger = charger::fresh_if(charge != m.selector.charge, m.charger);
-    n.selector = selector;
-    n
+    Machine {
+        charger: charger::fresh_if(charge != m.selector.charge, m.charger),
+        selector: Selector {
+            smb,
+            power,
+            charge,
+            ..m.selector
+        },
+        ..m
+    }
 }
 
 // Bay b after a SelectorPresets word: the OK mark of an absent bay stays 0.
 fn mark_ok(word: u16, b: u16, bay: Bay) -> Bay
     ensures { result ≡ ok_written word b bay }
 {
-    let mut n = bay;
-    n.ok = bay.present & words::bit(word, b);
-    n
+    Bay {
+        ok: bay.present & words::bit(word, b),
+        ..bay
+    }
 }
 
 // All four bays after a SelectorPresets word.
+#[tactic(auto, unfolding(model::specs::Bays::all_ok_written, model::specs::Bays::bay_at))]
 fn mark_bays(bays: [Bay; 4], word: u16) -> [Bay; 4]
     ensures { result ≡ all_ok_written word bays }
 {
-    let a = mark_ok(word, 0, bays[0]);
-    let b = mark_ok(word, 1, bays[1]);
-    let c = mark_ok(word, 2, bays[2]);
-    let d = mark_ok(word, 3, bays[3]);
-    [a, b, c, d]
+    std::array::from_fn(|k| mark_ok(word, k as u16, bays[k]))
 }
 
 // CHARGE is given up where its bay is present and the word has its OK bit 0.
+#[tactic(auto, unfolding(crate::specs::ByEvent::kept_charge), using(crate::proofs::ByMask::present_without))]
 fn keep_charge(m: Machine, word: u16) -> u16
     ensures { result ≡ kept_charge m word }
 {
     let bays = m.bays;
     let charge = m.selector.charge;
-    words::choose(
-        words::is_among(machine::present_nibble(bays), charge) & !words::is_among(word, charge),
-        0,
-        charge,
-    )
+    if words::is_among(machine::present_nibble(bays), charge) & !words::is_among(word, charge) {
+        0
+    } else {
+        charge
+    }
 }
 
 // The machine after an accepted SelectorPresets word, before it settles.
+#[tactic(auto, unfolding(crate::specs::ByEvent::presets_set), using(crate::proofs::ByEvent::on_presets))]
 pub fn set_presets(m: Machine, word: u16) -> Machine
     ensures { result ≡ act m (event.HostWrite 0x14 0x02 word) }
 {
     let bays = m.bays;
     let kept = keep_charge(m, word);
     let next = words::nibble(word, USE_NEXT);
-    let selector = Selector {
-        smb: m.selector.smb,
-        power: m.selector.power,
-        charge: kept,
-        next: next,
-    };
-    let mut n = machine::with_bays(m, mark_bays(bays, word));
-    n.charger = charger::fresh_if(kept != m.selector.charge, m.charger);
-    n.selector = selector;
-    n
+    Machine {
+        bays: mark_bays(bays, word),
+        charger: charger::fresh_if(kept != m.selector.charge, m.charger),
+        selector: Selector {
+            charge: kept,
+            next,
+            ..m.selector
+        },
+        ..m
+    }
 }
 
 // POWER_BY, inverted while the charge output is non-zero.
+#[tactic(auto, unfolding(model::specs::Reads::shown_power, model::specs::Reads::flowing), using(crate::proofs::ByMask::low_four_bits))]
 fn show_power(m: Machine) -> u16
     ensures { result ≡ shown_power m }
 {
-    let o = charger::output_of(m);
-    let inverted = 15 - words::nibble(m.selector.power, 0);
-    words::choose(
-        (o.milliamps != 0) | (o.millivolts != 0),
-        inverted,
-        m.selector.power,
-    )
+    let Output {
+        milliamps,
+        millivolts,
+    } = charger::output_of(m);
+    if (milliamps != 0) | (millivolts != 0) {
+        15 - words::nibble(m.selector.power, 0)
+    } else {
+        m.selector.power
+    }
 }
 
 // The SelectorState word that the host reads.
+#[tactic(auto, unfolding(model::specs::Reads::state_shown))]
 pub fn state_word(m: Machine) -> u16
     ensures { result ≡ state_shown m }
 {
@@ -266,29 +292,22 @@ pub fn state_word(m: Machine) -> u16
     )
 }
 
-// Whether a nibble names a candidate other than the power bay.
-fn may_follow(candidates: u16, power: u16, n: u16) -> bool
-    ensures { result ≡ (among candidates n && not (eqb n power)) }
-{
-    words::is_among(candidates, n) & (n != power)
-}
-
 // The candidates other than the power bay.
+#[tactic(auto, using(crate::proofs::ByMask::followers, crate::proofs::ByMask::all_follow, crate::proofs::ByMask::named_small))]
 fn follower_nibble(m: Machine) -> u16
     ensures { result ≡ follower_nibble m }
 {
     let bays = m.bays;
     let candidates = candidate_nibble(bays);
-    let power = m.selector.power;
-    words::mask(
-        may_follow(candidates, power, 1),
-        may_follow(candidates, power, 2),
-        may_follow(candidates, power, 4),
-        may_follow(candidates, power, 8),
-    )
+    if words::is_named(m.selector.power) {
+        candidates & (15 - m.selector.power)
+    } else {
+        candidates
+    }
 }
 
 // USE_NEXT: the wanted bay if it may follow, else the first that may, else 0.
+#[tactic(auto, unfolding(model::specs::Reads::shown_next), using(crate::proofs::ByMask::shown_next_lem))]
 fn show_next(m: Machine) -> u16
     ensures { result ≡ shown_next m }
 {
@@ -296,6 +315,7 @@ fn show_next(m: Machine) -> u16
 }
 
 // The SelectorPresets word that the host reads.
+#[tactic(auto, unfolding(model::specs::Reads::presets_shown))]
 pub fn presets_word(m: Machine) -> u16
     ensures { result ≡ presets_shown m }
 {
@@ -304,6 +324,7 @@ pub fn presets_word(m: Machine) -> u16
 }
 
 // The SelectorInfo word that the host reads.
+#[tactic(auto, unfolding(model::specs::Reads::info_shown))]
 pub fn info_word(m: Machine) -> u16
     ensures { result ≡ info_shown m }
 {

@@ -2,8 +2,9 @@
 use mathlib.Core.Path.{◌≡◌, refl, sym, ◌∙◌, ap}
 use Rattle.model.proofs.Outcomes.{OneOutcome}
 use Rattle.model.proofs.Numbers.{apart, refusal_at, refusal_back, steps_apart}
-use Rattle.shelf.specs.declared.Outputs.{Outputs}
-use Rattle.shelf.specs.declared.Outputs.TheVariants.{Drive, Refused}
+use Rattle.std.specs.Prelude.{Result, Ok, Err}
+use Rattle.model.specs.declared.Refusal.{Refusal}
+use Rattle.shelf.specs.declared.Drive.{Drive}
 use Rattle.shelf.specs.Outputs.{Shown, drive, refused, shown}
 use Rattle.shelf.proofs.program_setup.Kinds as program_setup_kinds
 use Rattle.shelf.proofs.program_setup.Reads as program_setup_reads
@@ -24,14 +25,14 @@ pub step_one : OneOutcome step_kinds.ps step_kinds.r step_reads.Post
 step_one κs a x y s t p q = steps_apart x y (p ∙ sym q)
 
 -- no two outputs are shown alike
-outputs_of : Shown → Outputs
-outputs_of (drive milliamps millivolts notice) = Drive milliamps millivolts notice
-outputs_of (refused n) = Refused (refusal_at n)
+outputs_of : Shown → Result Drive Refusal
+outputs_of (drive milliamps millivolts notice) = Ok (record { milliamps = milliamps; millivolts = millivolts; notice = notice })
+outputs_of (refused n) = Err (refusal_at n)
 
-outputs_back : (r : Outputs) → outputs_of (shown r) ≡ r
+outputs_back : (r : Result Drive Refusal) → outputs_of (shown r) ≡ r
 unfolding outputs_of
-outputs_back (Drive milliamps millivolts notice) = refl
-outputs_back (Refused why) = ap Refused (refusal_back why)
+outputs_back (Ok d) = refl
+outputs_back (Err why) = ap Err (refusal_back why)
 
 pub charge_one : OneOutcome charge_kinds.ps charge_kinds.r charge_reads.Post
 charge_one κs a x y s t p q = apart shown outputs_of outputs_back x y (p ∙ sym q)

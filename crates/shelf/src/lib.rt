@@ -12,19 +12,17 @@ use model::{
     Wake,
 };
 
-// What the board has to drive: the charge output and the notice; or the refusal.
-#[derive(Clone, Copy)]
-pub enum Outputs {
-    Drive {
-        milliamps: u16,
-        millivolts: u16,
-        notice: bool,
-    },
-    Refused(Refusal),
+// What the board has to drive: the charge output and the notice.
+#[derive(Clone, Copy, Debug, PartialEq, Eq)]
+pub struct Drive {
+    pub milliamps: u16,
+    pub millivolts: u16,
+    pub notice: bool,
 }
 
 // The machine at power-on. A setup out of its ranges is refused with 1, beside the machine of the program's setup.
 #[inline(always)]
+#[tactic(auto, unfolding(model::specs::Step::told, model::specs::Step::power_on_spec))]
 pub fn power_on(setup: Setup) -> Stepped
     ensures { told result ≡ power_on_spec setup }
 {
@@ -41,6 +39,7 @@ pub fn power_on(setup: Setup) -> Stepped
 // One event: the answer, and the machine after it. Refused with 15, 2, 3, 4, 5, 6, 7, 8 or 9, in that order, the machine is
 // handed back as it stood.
 #[inline(always)]
+#[tactic(auto, unfolding(model::specs::Step::told), using(crate::proofs::Steps::of_bad, actions::proofs::Ends::of_good))]
 pub fn step(machine: Machine, event: Event) -> Stepped
     ensures { told result ≡ step_spec machine event }
 {
@@ -53,25 +52,30 @@ pub fn step(machine: Machine, event: Event) -> Stepped
 
 // What the board needs after each step; 15 for a machine that breaks a bound.
 #[inline(always)]
-pub fn charge(machine: Machine) -> Outputs
+#[tactic(auto, unfolding(crate::specs::Outputs::charge_spec))]
+pub fn charge(machine: Machine) -> Result<Drive, Refusal>
     ensures { shown result ≡ charge_spec machine }
 {
     if machine::is_bad(machine) {
-        Outputs::Refused(Refusal::BadMachine)
+        Err(Refusal::BadMachine)
     } else {
-        let o = charger::output_of(machine);
-        Outputs::Drive {
-            milliamps: o.milliamps,
-            millivolts: o.millivolts,
+        let Output {
+            milliamps,
+            millivolts,
+        } = charger::output_of(machine);
+        Ok(Drive {
+            milliamps,
+            millivolts,
             notice: machine.notice,
-        }
+        })
     }
 }
 
 // AC absent, all bays empty, no request, no nibble, no notice, not inhibited.
 #[inline(always)]
-fn power_on_of(s: Setup) -> Machine
-    ensures { result ≡ power_on s }
+#[tactic(auto, unfolding(model::specs::Machines::power_on))]
+fn power_on_of(setup: Setup) -> Machine
+    ensures { result ≡ power_on setup }
 {
     let none = Request {
         word: 0,
@@ -87,7 +91,7 @@ fn power_on_of(s: Setup) -> Machine
         voltage: none,
         hold: false,
         inhibit: false,
-        wake: wake,
+        wake,
     };
     let selector = Selector {
         smb: 0,
@@ -95,13 +99,11 @@ fn power_on_of(s: Setup) -> Machine
         charge: 0,
         next: 0,
     };
-    let e = machine::empty_bay();
-    let bays = [e, e, e, e];
     Machine {
-        setup: s,
-        bays: bays,
-        charger: charger,
-        selector: selector,
+        setup,
+        bays: [machine::empty_bay(); 4],
+        charger,
+        selector,
         ac: false,
         notice: false,
     }
@@ -126,10 +128,10 @@ pub fn program_setup() -> Setup
     };
     Setup {
         supported: 3,
-        current: current,
-        voltage: voltage,
+        current,
+        voltage,
         low: 9000,
         restart: 10500,
-        wake: wake,
+        wake,
     }
 }

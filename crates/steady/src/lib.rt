@@ -6,11 +6,14 @@
 ghost use Rattle.std.specs.Prelude.{◌≡◌};
 ghost use Rattle.steady.specs.Following as following;
 
+pub mod promises;
+
 use actions::Action;
-use model::{Answer, Charger, Event, Machine, Setup};
+use model::{Answer, Charger, Event, Machine, Setup, Stepped};
 
 // What an event came to: the answer beside the machine; whether that machine is known to have settled, and its output to be the one before.
-#[derive(Clone, Copy)]
+// Two marks and no enum of the three cases: the lister asks each for itself, and would take the cases apart again.
+#[derive(Clone, Copy, Debug, PartialEq, Eq)]
 pub struct Followed {
     pub answer: Answer,
     pub machine: Machine,
@@ -18,7 +21,8 @@ pub struct Followed {
     pub quiet: bool,
 }
 
-// One event. steady says that the machine has settled.
+// One event. steady says that the machine has settled. The two come apart: with a struct of both, in and out, a listing
+// takes 7 to 10 % more instructions.
 #[inline(always)]
 pub fn follow(m: Machine, e: Event, steady: bool) -> Followed
     ensures { following.shown result ≡ following.follow_spec m e steady }
@@ -36,8 +40,7 @@ pub fn follow(m: Machine, e: Event, steady: bool) -> Followed
     let action = actions::decide(m, e);
     let done = actions::perform(m, action);
     if steady & !unsettles(action) {
-        let answer = done.answer;
-        let machine = done.machine;
+        let Stepped { answer, machine } = done;
         return Followed {
             answer,
             machine,
@@ -45,9 +48,7 @@ pub fn follow(m: Machine, e: Event, steady: bool) -> Followed
             quiet: is_alike(m.setup, m.charger, machine.charger),
         };
     }
-    let settled = actions::finish(done);
-    let answer = settled.answer;
-    let machine = settled.machine;
+    let Stepped { answer, machine } = actions::finish(done);
     let accepted = actions::is_accepted(answer);
     Followed {
         answer,
@@ -62,31 +63,7 @@ pub fn follow(m: Machine, e: Event, steady: bool) -> Followed
 fn is_tick(e: Event) -> bool
     ensures { result ≡ following.is_tick e }
 {
-    match e {
-        Event::HostWrite {
-            address: _,
-            code: _,
-            word: _,
-        } => false,
-        Event::HostRead {
-            address: _,
-            code: _,
-        } => false,
-        Event::BayWord {
-            bay: _,
-            code: _,
-            word: _,
-        } => false,
-        Event::Insertion { bay: _ } => false,
-        Event::Removal { bay: _ } => false,
-        Event::Signal { bay: _, ohms: _ } => false,
-        Event::Terminal {
-            bay: _,
-            millivolts: _,
-        } => false,
-        Event::Ac { present: _ } => false,
-        Event::Tick => true,
-    }
+    matches!(e, Event::Tick)
 }
 
 // Whether an action can touch what a machine settles by: its bays, its nibbles, AC.
@@ -94,42 +71,28 @@ fn is_tick(e: Event) -> bool
 fn unsettles(action: Action) -> bool
     ensures { result ≡ following.unsettles action }
 {
-    match action {
-        Action::SetCurrent(_) => false,
-        Action::SetVoltage(_) => false,
-        Action::SetAlarm(_) => false,
-        Action::SetMode(_) => false,
-        Action::SetState(_) => true,
-        Action::SetPresets(_) => true,
-        Action::ReadSpec => false,
-        Action::ReadStatus => false,
-        Action::ReadState => false,
-        Action::ReadPresets => false,
-        Action::ReadInfo => false,
-        Action::Insert(_) => true,
-        Action::Remove(_) => true,
-        Action::TakeSignal { bay: _, ohms: _ } => true,
-        Action::TakeTerminal {
-            bay: _,
-            millivolts: _,
-        } => true,
-        Action::SetAc(_) => true,
-        Action::Age => false,
-        Action::Refuse(_) => false,
-    }
+    matches!(
+        action,
+        Action::SetState(_)
+            | Action::SetPresets(_)
+            | Action::Insert(_)
+            | Action::Remove(_)
+            | Action::TakeSignal { .. }
+            | Action::TakeTerminal { .. }
+            | Action::SetAc(_)
+    )
 }
 
 // Whether two chargers are the same to the output. Of wake-up nothing shows where it is switched off.
 #[inline(always)]
+#[tactic(auto, unfolding(crate::specs::Following::same, crate::specs::Following::same_wake, crate::specs::Following::alike))]
 fn is_alike(s: Setup, a: Charger, b: Charger) -> bool
     ensures { result ≡ following.alike s a b }
 {
-    let is_on = b.wake.age < 175;
     (a.current.word == b.current.word)
         & (a.voltage.word == b.voltage.word)
-        & words::choose_bool(a.hold, b.hold, !b.hold)
-        & words::choose_bool(a.inhibit, b.inhibit, !b.inhibit)
+        & (a.hold == b.hold)
+        & (a.inhibit == b.inhibit)
         & ((s.wake.milliamps == 0)
-            | (words::choose_bool(a.wake.spent, b.wake.spent, !b.wake.spent)
-                & words::choose_bool(a.wake.age < 175, is_on, !is_on)))
+            | ((a.wake.spent == b.wake.spent) & ((a.wake.age < 175) == (b.wake.age < 175))))
 }

@@ -1,81 +1,76 @@
-// Reads a table of cases and prints each row with its outcome: what is run and not proved, each refusal, and where slips are easy. The
-// table is the file stdin beside this folder, what it has to come to the file stdout.
+// Reads a table of cases and prints each row with its outcome: what is run and not proved, each refusal, and where
+// slips are easy. The table is the file stdin beside this folder, what it has to come to the file stdout.
 #![tactic(auto)]
 
-mod handed;
 mod log;
 mod machines;
-mod print;
+mod registers;
 mod rows;
-mod same;
-
-ghost use Rattle.std.specs.Prelude.{◌≤◌, length};
+mod told;
 
 use model::Machine;
-use window::{read_full, say};
+use rows::Case;
+use std::alloc::Global;
+use std::io::{self, BufWriter, Write};
+use window::{read_full, say_failed};
+
+// No table is longer, in bytes.
+const LONGEST: usize = 65535;
 
 fn main(rt: HostRuntime) {
-    let mut table = [0u8; 65536];
+    if let Err(why) = tell_table(rt) {
+        say_failed(&mut rt.stderr(), b"telling the table", why);
+    }
+}
+
+// Tells the table on standard input. What was told before a failure is written all the same.
+fn tell_table(rt: HostRuntime) -> io::Result<()> {
+    let mut table = vec![in rt.alloc(); 0u8; LONGEST + 1]?;
     let length = read_full(&mut rt.stdin(), &mut table);
-    if length < 65536 {
-        tell_all(rt, &table[..length]);
-    } else {
-        say(&mut rt.stderr(), b"the table is longer than 65535 bytes\n");
+    table.truncate(length);
+    if LONGEST < table.len() {
+        return writeln!(rt.stderr(), "the table is longer than {LONGEST} bytes");
     }
+    let mut out = BufWriter::new(rt.alloc(), rt.stdout())?;
+    let told = tell_all(rt.alloc(), &mut out, &table);
+    out.flush().and(told)
 }
 
-fn tell_all(rt: HostRuntime, table: &[u8]) {
-    let start = shelf::power_on(shelf::program_setup());
-    let mut machine = start.machine;
-    let mut from = 0;
-    while from < table.len() {
-        let to = line_end(table, from);
-        machine = tell(rt, machine, &table[from..to]);
-        from = to + 1;
+// Each row, at the machine that the rows before it left.
+fn tell_all<W: Write>(alloc: Global, out: &mut W, table: &[u8]) -> io::Result<()> {
+    let mut machine = shelf::power_on(shelf::program_setup()).machine;
+    for line in table.split_inclusive(|b| *b == b'\n') {
+        let row = line.strip_suffix(b"\n").unwrap_or(line);
+        machine = tell(alloc, out, machine, row)?;
     }
+    Ok(())
 }
 
-// Where the line ends that begins at a place: at its newline, or at the end of the table.
-fn line_end(table: &[u8], from: usize) -> usize
-    requires { from ≤ length table.now }
-    ensures { (from ≤ result) × (result ≤ length table.now) }
-{
-    let mut i = from;
-    while i < table.len() {
-        if table[i] == b'\n' {
-            return i;
+// A row as it stands, and behind it what it comes to; the machine after it. An empty row and one that begins with # are
+// for people.
+fn tell<W: Write>(alloc: Global, out: &mut W, machine: Machine, row: &[u8]) -> io::Result<Machine> {
+    out.write_all(row)?;
+    let mut after = machine;
+    if !matches!(row.first(), None | Some(b'#')) {
+        write!(out, " |")?;
+        match Case::of_row(alloc, row)? {
+            Some(case) => after = tell_case(out, machine, case)?,
+            None => write!(out, " no such row")?,
         }
-        i += 1;
     }
-    i
+    writeln!(out)?;
+    Ok(after)
 }
 
-// A row as it stands, and behind it what it comes to. An empty line and one that begins with # are for people.
-fn tell(rt: HostRuntime, m: Machine, row: &[u8]) -> Machine {
-    print::text(rt, row);
-    let after = outcome(rt, m, row);
-    print::text(rt, b"\n");
-    after
-}
-
-fn outcome(rt: HostRuntime, m: Machine, row: &[u8]) -> Machine {
-    if row.len() == 0 {
-        return m;
+// What a row comes to, and the machine after it. A machine that is handed in with another value in a register meets the
+// event that the row ends with; the story goes on without it.
+fn tell_case<W: Write>(out: &mut W, machine: Machine, case: Case) -> io::Result<Machine> {
+    match case {
+        Case::Start(setup) => return machines::start(out, setup),
+        Case::Step { event, times } => return machines::step(out, machine, event, times),
+        Case::Handed { change, event } => machines::hand_in(out, machine, change, event)?,
+        Case::Read(bytes) => log::read(out, &bytes)?,
+        Case::Write { size, place, event } => log::write(out, size, place, event)?,
     }
-    let letter = row[0];
-    if letter == b'#' {
-        return m;
-    }
-    print::bar(rt);
-    if !rows::is_known(letter) {
-        print::no_such_row(rt);
-        return m;
-    }
-    let numbers = rows::numbers_in(row);
-    match letter {
-        b'l' => log::read(rt, numbers),
-        b'f' => log::write(rt, numbers),
-        _ => return machines::follow(rt, m, letter, numbers),
-    }
-    m
+    Ok(machine)
 }

@@ -1,178 +1,211 @@
-// The rows of the table. The first letter of a row says what it is; the numbers in it, in decimal or hexadecimal, say the rest. Words
-// are for people.
-use model::Event;
+// The rows of the table. The first letter of a row says what it is; the numbers in it, in decimal or hexadecimal, say
+// the rest. Words are for people, but for the last, whose first letter says which event stands behind something else.
+use crate::registers::{Change, Register};
+use model::{Event, Limit, Output, Setup};
+use std::alloc::{AllocError, Global};
 
-// The numbers in a row, in their order, with zeros behind them; and the first letter of its last word.
-#[derive(Clone, Copy)]
-pub struct Numbers {
-    pub count: usize,
-    pub of: [u32; 12],
-    pub letter: u8,
+// A row has no more numbers; further ones are passed over.
+const MOST_NUMBERS: usize = 12;
+
+// What a row asks for.
+#[derive(Drop)]
+pub enum Case {
+    // Power-on.
+    Start(Setup),
+    // An event, so many times, and once at least.
+    Step {
+        event: Event,
+        times: u32,
+    },
+    // An event at the machine with another value in a register.
+    Handed {
+        change: Change,
+        event: Event,
+    },
+    // The record at the front of these bytes, and all of them run as a log.
+    Read(Vec<u8>),
+    // The record of an event, at a place of a log of that size.
+    Write {
+        size: usize,
+        place: usize,
+        event: Event,
+    },
 }
 
-// A row that is being read: its numbers so far, the number under way, and whether one is, in hexadecimal, or a word.
-#[derive(Clone, Copy)]
-struct Scan {
-    pub numbers: Numbers,
-    pub value: u64,
-    pub is_number: bool,
-    pub is_hex: bool,
-    pub is_word: bool,
-}
-
-pub fn numbers_in(row: &[u8]) -> Numbers {
-    let of = [0u32; 12];
-    let mut s = anew(Numbers {
-        count: 0,
-        of,
-        letter: 0,
-    });
-    let mut i = 0;
-    while i < row.len() {
-        s = take(s, row[i]);
-        i += 1;
-    }
-    let last = close(s);
-    last.numbers
-}
-
-// Before a number or a word.
-fn anew(numbers: Numbers) -> Scan {
-    Scan {
-        numbers,
-        value: 0,
-        is_number: false,
-        is_hex: false,
-        is_word: false,
-    }
-}
-
-// The row read one byte further.
-fn take(s: Scan, b: u8) -> Scan {
-    if b == b' ' {
-        return close(s);
-    }
-    let d = digit(b);
-    let is_x = s.is_number & (b == b'x');
-    let is_digit = (d < 10) | (s.is_hex & (d < 16));
-    let is_start = !(s.is_number | s.is_word);
-    let numbers = named(s.numbers, is_start & !is_digit, b);
-    let value = if s.is_hex {
-        s.value % 4294967296 * 16 + d % 16
-    } else {
-        s.value % 4294967296 * 10 + d % 16
-    };
-    Scan {
-        numbers,
-        value,
-        is_number: (is_digit | is_x) & !s.is_word,
-        is_hex: s.is_hex | is_x,
-        is_word: s.is_word | !(is_digit | is_x),
-    }
-}
-
-// The digit of a byte; 16 if it is none.
-fn digit(b: u8) -> u64 {
-    if b < 48 {
-        return 16;
-    }
-    if b < 58 {
-        return (b - 48) as u64;
-    }
-    if b < 65 {
-        return 16;
-    }
-    if b < 71 {
-        return (b - 55) as u64;
-    }
-    if b < 97 {
-        return 16;
-    }
-    if b < 103 {
-        return (b - 87) as u64;
-    }
-    16
-}
-
-// The end of a number or a word.
-fn close(s: Scan) -> Scan {
-    let numbers = s.numbers;
-    if s.is_number {
-        anew(with(numbers, (s.value % 4294967296) as u32))
-    } else {
-        anew(numbers)
-    }
-}
-
-// One number more. A row has twelve at most; more are passed over.
-fn with(numbers: Numbers, n: u32) -> Numbers {
-    let count = numbers.count;
-    let mut of = numbers.of;
-    if count < 12 {
-        of[count] = n;
-        return Numbers {
-            count: count + 1,
-            of,
-            letter: numbers.letter,
+impl Case {
+    // None if no case has the row's first letter.
+    pub(crate) fn of_row(alloc: Global, row: &[u8]) -> Result<Option<Case>, AllocError> {
+        let Some(&letter) = row.first() else {
+            return Ok(None);
         };
+        let found: Vec<u32> = row
+            .split(is_space)
+            .filter_map(number_in)
+            .take(MOST_NUMBERS)
+            .collect(alloc)?;
+        let mut numbers = Numbers { rest: &found };
+        let case = match letter {
+            b's' => Case::Start(setup_of(&mut numbers)),
+            b'h' => Case::Handed {
+                change: change_of(&mut numbers),
+                event: event_behind(row, &mut numbers),
+            },
+            b'l' => Case::Read(found.iter().map(|n| low_byte(*n)).collect(alloc)?),
+            b'f' => Case::Write {
+                size: numbers.number() as usize,
+                place: numbers.number() as usize,
+                event: event_behind(row, &mut numbers),
+            },
+            b't' => Case::Step {
+                event: Event::Tick,
+                times: numbers.number(),
+            },
+            _ => match event_of(letter, &mut numbers) {
+                Some(event) => Case::Step { event, times: 1 },
+                None => return Ok(None),
+            },
+        };
+        Ok(Some(case))
     }
-    numbers
 }
 
-// The same numbers, and another letter if a word begins.
-fn named(numbers: Numbers, is_word: bool, letter: u8) -> Numbers {
-    let mut r = numbers;
-    if is_word {
-        r.letter = letter;
-    }
-    r
+// The numbers of a row, in their order, and zeros behind them.
+#[derive(Drop)]
+struct Numbers<'a> {
+    rest: &'a [u32],
 }
 
-// Whether there are rows with this first letter.
-pub fn is_known(letter: u8) -> bool {
-    match letter {
-        b's' | b'h' | b'l' | b'f' => true,
-        b'w' | b'r' | b'b' | b'i' | b'p' | b'o' | b'v' | b'a' | b't' => true,
-        _ => false,
+impl Numbers<'_> {
+    // The next one.
+    fn number(&mut self) -> u32 {
+        let Some((&number, rest)) = self.rest.split_first() else {
+            return 0;
+        };
+        self.rest = rest;
+        number
+    }
+
+    // The next one without what does not fit into 16 bits.
+    fn word(&mut self) -> u16 {
+        low_word(self.number())
+    }
+
+    // The next one without what does not fit into 8 bits.
+    fn byte(&mut self) -> u8 {
+        low_byte(self.number())
     }
 }
 
-// The event of a row.
-pub fn event_of(letter: u8, a: u32, b: u32, c: u32) -> Event {
-    match letter {
+pub(crate) fn low_word(n: u32) -> u16 {
+    (n & 0xffff) as u16
+}
+
+fn low_byte(n: u32) -> u8 {
+    (n & 0xff) as u8
+}
+
+fn is_space(b: &u8) -> bool {
+    *b == b' '
+}
+
+// The number that a word of a row gives, if it is one, without what does not fit into 32 bits. It is in decimal, and in
+// hexadecimal behind an x, which stands for a digit 0.
+fn number_in(word: &[u8]) -> Option<u32> {
+    let (&first, others) = word.split_first()?;
+    let mut number = char::from(first).to_digit(10)?;
+    let mut radix = 10;
+    for &b in others {
+        let (digit, next) = match b {
+            b'x' => (0, 16),
+            _ => (char::from(b).to_digit(radix)?, radix),
+        };
+        number = number.wrapping_mul(radix).wrapping_add(digit);
+        radix = next;
+    }
+    Some(number)
+}
+
+fn setup_of(numbers: &mut Numbers) -> Setup {
+    Setup {
+        supported: numbers.word(),
+        current: Limit {
+            largest: numbers.word(),
+            safe: numbers.word(),
+        },
+        voltage: Limit {
+            largest: numbers.word(),
+            safe: numbers.word(),
+        },
+        low: numbers.word(),
+        restart: numbers.word(),
+        wake: Output {
+            milliamps: numbers.word(),
+            millivolts: numbers.word(),
+        },
+    }
+}
+
+// A register and its value, or a bay's register, the bay and its value.
+fn change_of(numbers: &mut Numbers) -> Change {
+    let register = Register::try_from(numbers.number()).ok();
+    let is_of_bay = register.is_some_and(|r| r.is_of_bay());
+    Change {
+        register,
+        bay: if is_of_bay {
+            numbers.number() as usize
+        } else {
+            0
+        },
+        value: numbers.number(),
+    }
+}
+
+// The event that the last word of a row begins; a tick if it begins none.
+fn event_behind(row: &[u8], numbers: &mut Numbers) -> Event {
+    row.split(is_space)
+        .filter_map(|word| word.first())
+        .filter(|b| !b.is_ascii_digit())
+        .last()
+        .and_then(|letter| event_of(*letter, numbers))
+        .unwrap_or(Event::Tick)
+}
+
+// The event that this letter begins.
+fn event_of(letter: u8, numbers: &mut Numbers) -> Option<Event> {
+    let event = match letter {
         b'w' => Event::HostWrite {
-            address: byte(a),
-            code: byte(b),
-            word: word(c),
+            address: numbers.byte(),
+            code: numbers.byte(),
+            word: numbers.word(),
         },
         b'r' => Event::HostRead {
-            address: byte(a),
-            code: byte(b),
+            address: numbers.byte(),
+            code: numbers.byte(),
         },
         b'b' => Event::BayWord {
-            bay: byte(a),
-            code: byte(b),
-            word: word(c),
+            bay: numbers.byte(),
+            code: numbers.byte(),
+            word: numbers.word(),
         },
-        b'i' => Event::Insertion { bay: byte(a) },
-        b'p' => Event::Removal { bay: byte(a) },
+        b'i' => Event::Insertion {
+            bay: numbers.byte(),
+        },
+        b'p' => Event::Removal {
+            bay: numbers.byte(),
+        },
         b'o' => Event::Signal {
-            bay: byte(a),
-            ohms: b,
+            bay: numbers.byte(),
+            ohms: numbers.number(),
         },
         b'v' => Event::Terminal {
-            bay: byte(a),
-            millivolts: word(b),
+            bay: numbers.byte(),
+            millivolts: numbers.word(),
         },
-        b'a' => Event::Ac { present: a == 1 },
-        _ => Event::Tick,
-    }
-}
-
-pub fn byte(n: u32) -> u8 {
-    (n % 256) as u8
-}
-
-pub fn word(n: u32) -> u16 {
-    (n % 65536) as u16
+        b'a' => Event::Ac {
+            present: numbers.number() == 1,
+        },
+        b't' => Event::Tick,
+        _ => return None,
+    };
+    Some(event)
 }

@@ -9,13 +9,8 @@ use lib.Dec.{leb}
 use lib.ListN.{take, drop}
 use lib.Seq.{take_all, drop-drop}
 use borrow.Author.Tests.{leb-true, leb-false}
-use Rattle.window.specs.declared.Window.{Window}
 use Rattle.window.specs.Windows.{between, behind}
 use Rattle.window.specs.Promises.{RestIsAtHand}
-
-pub behind_at : (w : Window) (k from : ℕ) → from ≡ min (w.from + k) w.to → record { from = from; to = w.to; last = w.last; failed = w.failed } ≡ behind w k
-unfolding behind
-behind_at w k from h = rw h
 
 drop_of_take : (k n : ℕ) (s : List ℕ) → drop k (take n s) ≡ take (n - k) (drop k s)
 drop_of_take zero n s = rw sub-zero

@@ -3,104 +3,77 @@
 // say what failed.
 #![tactic(auto)]
 
-ghost use Rattle.std.specs.Prelude.{◌≡◌, false, ◌-◌, ◌≤◌, min, length, None};
-ghost use Rattle.layout.specs.Writing.{put};
-ghost use Rattle.window.specs.Windows.{between, behind, Refilled};
+ghost use Rattle.std.specs.Prelude.{◌≡◌, false, ◌-◌, ◌≤◌, length, take, IfOk, OnErr};
+ghost use Rattle.std.specs.Io.KnownBytes.{Consumes, Keeps};
+ghost use Rattle.window.specs.Windows.{at_hand, behind, rests, Refilled, Streams, Ends, Grows, Stays};
 
+pub mod promises;
+
+use std::io;
 use std::io::{Error, ErrorKind, Read, Write};
 
-// What is at hand: the bytes of the buffer from one place up to another. last says that no more will come, failed why
-// the file could not be read.
-#[derive(Clone, Copy)]
+// What is at hand: the bytes of the buffer from one place up to another. last says that no more will come.
+#[derive(Clone, Copy, Debug, PartialEq, Eq)]
 pub struct Window {
     pub from: usize,
     pub to: usize,
     pub last: bool,
-    pub failed: Option<Error>,
 }
 
 // Nothing yet.
 pub fn unread() -> Window
-    ensures { result ≡ record { from = 0; to = 0; last = false; failed = None } }
+    ensures { result ≡ record { from = 0; to = 0; last = false } }
 {
     Window {
         from: 0,
         to: 0,
         last: false,
-        failed: None,
     }
 }
 
 // The window behind so many bytes of what is at hand.
+#[tactic(auto, unfolding(crate::specs::Windows::behind))]
 pub fn passed(at: Window, taken: usize) -> Window
     ensures { result ≡ behind at taken }
 {
-    let mut from = at.to;
-    if at.from <= at.to {
-        if taken <= at.to - at.from {
-            from = at.from + taken;
-        }
-    }
     Window {
-        from,
-        to: at.to,
-        last: at.last,
-        failed: at.failed,
+        from: at.from.saturating_add(taken).min(at.to),
+        ..at
     }
 }
 
-// What is left, and behind it as many bytes as one read gives, where those left are fewer than are wanted and there is room for more.
-pub fn refill<R: Read>(file: &mut R, buffer: &mut [u8], wanted: usize, at: Window) -> Window
-    ensures { Refilled buffer.old buffer.new wanted at result }
+// What is left, and behind it as many bytes as one read gives, where those left are fewer than are wanted and there is
+// room for more. What was at hand is kept, at the front of the buffer, where that read fails.
+pub fn refill<R: Read>(
+    file: &mut R,
+    buffer: &mut [u8],
+    wanted: usize,
+    at: Window,
+) -> io::Result<Window>
+    ensures refilled { IfOk result (λ next. Refilled buffer.old buffer.new wanted at next) }
+    // No byte is lost or made up.
+    ensures streams { IfOk result (λ next. Streams (R.remaining file.old) (R.remaining file.new)
+        (at_hand buffer.old at) (at_hand buffer.new next)) }
+    // The last is not said too early.
+    ensures ends { IfOk result (λ next. Ends (R.remaining file.old) (R.remaining file.new) at.last next.last) }
+    ensures grows { wanted ≤ length buffer.old → IfOk result (λ next.
+        Grows wanted (at_hand buffer.old at) (at_hand buffer.new next) next.last) }
+    ensures failed { OnErr result (Stays buffer.old buffer.new wanted at × Keeps (R.remaining file.old) (R.remaining file.new)) }
 {
-    let to = least(at.to, buffer.len());
-    let from = least(at.from, to);
+    let to = at.to.min(buffer.len());
+    let from = at.from.min(to);
     let left = to - from;
     let rests = at.last | (wanted <= left) | (left == buffer.len());
     if rests {
-        return Window {
-            from,
-            to,
-            last: at.last,
-            failed: None,
-        };
+        return Ok(Window { from, to, ..at });
     }
-    let kept = move_to_front(buffer, from, to);
-    match file.read(&mut buffer[kept..]) {
-        Ok(n) => Window {
-            from: 0,
-            to: kept + n,
-            last: n == 0,
-            failed: None,
-        },
-        Err(e) => Window {
-            from: 0,
-            to: kept,
-            last: at.last,
-            failed: Some(e),
-        },
-    }
-}
-
-// Moves what is left to the front of the buffer: how many bytes that is.
-fn move_to_front(buffer: &mut [u8], from: usize, to: usize) -> usize
-    requires { (from ≤ to) × (to ≤ length buffer.old) }
-    ensures value { result ≡ to - from }
-    ensures after { buffer.new ≡ put buffer.old 0 (between buffer.old from to) }
-{
-    let mut i = 0;
-    while from + i < to {
-        buffer[i] = buffer[from + i];
-        i += 1;
-    }
-    i
-}
-
-// The lesser of two.
-fn least(a: usize, b: usize) -> usize
-    ensures { result ≡ min a b }
-{
-    if a < b { a } else { b }
+    buffer.copy_within(from..to, 0);
+    let got = file.read(&mut buffer[left..])?;
+    Ok(Window {
+        from: 0,
+        to: left + got,
+        last: got == 0,
+    })
 }
 
 // Says what failed, as the caller names it, a colon and the library's text for why, which is the system's where a call of
@@ -143,9 +116,12 @@ fn put_reason(text: &mut [u8], why: Error) -> usize
 
 // Reads until the buffer is full, the input ends or a read fails: how many bytes were put at its front.
 pub fn read_full<R: Read>(file: &mut R, buffer: &mut [u8]) -> usize
-    ensures { result ≤ length buffer.new }
+    ensures bound { result ≤ length buffer.new }
+    // They are those that were next.
+    ensures bytes { Consumes (R.remaining file.old) (R.remaining file.new) (take result buffer.new) }
 {
     let mut done = 0;
+    // How far a read gets is the file's answer, so the place to go on from is no step of an iterator.
     while done < buffer.len() {
         match file.read(&mut buffer[done..]) {
             Ok(0) => return done,

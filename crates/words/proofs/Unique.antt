@@ -1,6 +1,10 @@
 -- No two outcomes fit the contract of a function that the crates above may call.
-use mathlib.Core.Path.{sym, ◌∙◌}
-use Rattle.model.proofs.Outcomes.{OneOutcome}
+use mathlib.Core.Path.{◌≡◌, sym, ◌∙◌}
+use denote.RattleType.{RattleType}
+use denote.Param.Laws.{Laws, IsCopy}
+use mir.Syntax.{Dict}
+use Rattle.std.specs.declared.clone.Clone.{Ghosts}
+use Rattle.model.proofs.Outcomes.{OneOutcome, NoTwoOutcomes}
 use Rattle.words.proofs.bit.Kinds as bit_kinds
 use Rattle.words.proofs.bit.Reads as bit_reads
 use Rattle.words.proofs.nibble.Kinds as nibble_kinds
@@ -17,8 +21,6 @@ use Rattle.words.proofs.names.Kinds as names_kinds
 use Rattle.words.proofs.names.Reads as names_reads
 use Rattle.words.proofs.choose.Kinds as choose_kinds
 use Rattle.words.proofs.choose.Reads as choose_reads
-use Rattle.words.proofs.choose_bool.Kinds as choose_bool_kinds
-use Rattle.words.proofs.choose_bool.Reads as choose_bool_reads
 use Rattle.words.proofs.flag.Kinds as flag_kinds
 use Rattle.words.proofs.flag.Reads as flag_reads
 use Rattle.words.proofs.mask.Kinds as mask_kinds
@@ -51,12 +53,6 @@ bay_number_one κs a x y s t p q = p ∙ sym q
 pub names_one : OneOutcome names_kinds.ps names_kinds.r names_reads.Post
 names_one κs a x y s t p q = p ∙ sym q
 
-pub choose_one : OneOutcome choose_kinds.ps choose_kinds.r choose_reads.Post
-choose_one κs a x y s t p q = p ∙ sym q
-
-pub choose_bool_one : OneOutcome choose_bool_kinds.ps choose_bool_kinds.r choose_bool_reads.Post
-choose_bool_one κs a x y s t p q = p ∙ sym q
-
 pub flag_one : OneOutcome flag_kinds.ps flag_kinds.r flag_reads.Post
 flag_one κs a x y s t p q = p.0 ∙ sym q.0
 
@@ -71,3 +67,7 @@ is_one_of_one κs a x y s t p q = p ∙ sym q
 
 pub is_among_one : OneOutcome is_among_kinds.ps is_among_kinds.r is_among_reads.Post
 is_among_one κs a x y s t p q = p ∙ sym q
+
+pub choose_one : (T : RattleType) (laws : Laws T) (copies : IsCopy T) (clone : Ghosts T.Denot) (picked : Dict)
+    → NoTwoOutcomes 1 (choose_kinds.ps T laws copies) (choose_kinds.r T laws copies) (choose_reads.Post T laws copies clone picked) (λ κs x y s t. x ≡ y)
+choose_one T laws copies clone picked κs a x y s t p q = p ∙ sym q

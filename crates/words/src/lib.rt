@@ -27,6 +27,7 @@ pub fn put_nibbles(a: u16, b: u16, c: u16, d: u16) -> u16
 }
 
 // Whether an AlarmWarning word has any of bits 15 to 12 set.
+#[tactic(auto, unfolding(model::specs::Words::alarming))]
 pub fn is_alarm(word: u16) -> bool
     ensures { result ≡ words.alarming word }
 {
@@ -34,24 +35,27 @@ pub fn is_alarm(word: u16) -> bool
 }
 
 // Whether a nibble names one bay.
+#[tactic(auto, using(crate::proofs::OneBit::bit_test))]
 pub fn is_named(n: u16) -> bool
     ensures { result ≡ words.named n }
 {
-    (n < 16) & (u16::count_ones(n) == 1)
+    (n < 16) & (n.count_ones() == 1)
 }
 
 // The number of the bay that a nibble names, 3 where it names none.
+#[tactic(auto, using(crate::proofs::OneBit::bay_place, crate::proofs::OneBit::bay_none))]
 pub fn bay_number(n: u16) -> u8
     ensures { result ≡ words.bay_number n }
 {
     if is_named(n) {
-        u16::trailing_zeros(n) as u8
+        n.trailing_zeros() as u8
     } else {
         3
     }
 }
 
 // Whether the nibble n names bay b.
+#[tactic(auto, unfolding(model::specs::Words::names))]
 pub fn names(n: u16, b: u8) -> bool
     ensures { result ≡ words.names n b }
 {
@@ -59,14 +63,7 @@ pub fn names(n: u16, b: u8) -> bool
 }
 
 // The value a where c holds, else b.
-pub fn choose(c: bool, a: u16, b: u16) -> u16
-    ensures { result ≡ cond c a b }
-{
-    if c { a } else { b }
-}
-
-// The truth a where c holds, else b.
-pub fn choose_bool(c: bool, a: bool, b: bool) -> bool
+pub fn choose<T: Copy>(c: bool, a: T, b: T) -> T
     ensures { result ≡ cond c a b }
 {
     if c { a } else { b }
@@ -83,7 +80,7 @@ pub fn flag(on: bool, value: u16) -> u16
 fn one(on: bool) -> u16
     ensures { (result ≡ cond on 1 0) × (result ≤ 1) }
 {
-    on as u16
+    u16::from(on)
 }
 
 // A mask: bit b says what holds of bay b.
@@ -102,6 +99,7 @@ pub fn first_in(mask: u16) -> u16
 }
 
 // Whether a nibble is 0 or names a bay whose bit is set in the mask.
+#[tactic(auto, using(crate::proofs::Masks::first_one))]
 pub fn is_one_of(mask: u16, n: u16) -> bool
     ensures { result ≡ one_of mask n }
 {
@@ -109,6 +107,7 @@ pub fn is_one_of(mask: u16, n: u16) -> bool
 }
 
 // Whether a nibble names a bay whose bit is set in the mask.
+#[tactic(auto, using(crate::proofs::Masks::some_among))]
 pub fn is_among(mask: u16, n: u16) -> bool
     ensures { result ≡ among mask n }
 {

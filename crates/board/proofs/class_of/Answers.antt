@@ -1,8 +1,11 @@
-use Prim.Native.Nat.{◌-◌}
-use mathlib.Core.Path.{refl}
-use Rattle.model.specs.Board.{class_of}
+use mathlib.Core.Path.{refl, sym, ◌∙◌}
+use Rattle.model.specs.Board.{edges, class_of}
+use Rattle.board.proofs.Walk.{goes_on}
 use Rattle.board.proofs.class_of.Goals as goal
 
-pub loop-i-init : goal.loop-i-init
+pub loop-below-init : goal.loop-below-init
 unfolding class_of
-loop-i-init c = refl
+loop-below-init c = refl
+
+pub loop-below-preserved : goal.loop-below-preserved
+loop-below-preserved c = sym (goes_on edges c.loop-below.below-index c.args.ohms _ c.loop-below-test.true c.if-ohms-below.false) ∙ c.loop-below.invariant

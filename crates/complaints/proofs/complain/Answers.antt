@@ -1,39 +1,41 @@
 use native.Mathlib.Omega.{arith}
-use mathlib.Core.Path.{sym, ◌∙◌}
+use Rattle.std.proofs.Common.{rules}
+use mathlib.Core.Path.{◌∙◌}
 use Rattle.spelling.specs.Text.{text}
-use Rattle.pieces.proofs.Room.{there, with_fit, piece_refused}
+use Rattle.pieces.proofs.Room.{with_fit}
+use Rattle.pieces.proofs.Moves.{there}
 use Rattle.complaints.proofs.Said.{parts_fit, complaint_put}
 use Rattle.complaints.proofs.complain.Goals as goal
 
-pub put_subject-a-requires : goal.put_subject-a-requires
-put_subject-a-requires c =
+pub put_subject-requires : goal.put_subject-requires
+put_subject-requires c =
     let z = c.args in
-    let h = with_fit _ _ _ (sym c.has_room_for.ensures ∙ c.if-has_room_for.true) in
+    let h = with_fit _ _ _ c.in_ok-room_for.ensures.room in
     let s = parts_fit z.number z.line.now z.field z.word in
     omega arith
 
-pub put_expected-b-requires : goal.put_expected-b-requires
-put_expected-b-requires c =
+pub put_expected-requires : goal.put_expected-requires
+put_expected-requires c =
     let z = c.args in
-    let h = with_fit _ _ _ (sym c.has_room_for.ensures ∙ c.if-has_room_for.true) in
+    let h = with_fit _ _ _ c.in_ok-room_for.ensures.room in
     let s = parts_fit z.number z.line.now z.field z.word in
-    omega arith
+    let e = c.put_subject.ensures in
+    omega (arith, e.place, e.long)
 
-pub put_found-d-requires : goal.put_found-d-requires
-put_found-d-requires c =
-    let z = c.args in
-    let h = with_fit _ _ _ (sym c.has_room_for.ensures ∙ c.if-has_room_for.true) in
-    let s = parts_fit z.number z.line.now z.field z.word in
-    let t = there _ _ _ _ _ (omega arith) (c.text-c.ensures.value, c.text-c.ensures.after) in
-    omega arith
-
-pub returns-then-has_room_for : goal.returns-then-has_room_for
+pub put_found-requires : goal.put_found-requires
 unfolding text
-returns-then-has_room_for c =
-    let t = complaint_put _ _ _ _ _ _ _ _ _ _ _ _ _ _ _ _ (c.put_subject-a.ensures.value, c.put_subject-a.ensures.after) (c.put_expected-b.ensures.value, c.put_expected-b.ensures.after) (c.text-c.ensures.value, c.text-c.ensures.after) (c.put_found-d.ensures.value, c.put_found-d.ensures.after) (c.text.ensures.value, c.text.ensures.after) (sym c.has_room_for.ensures ∙ c.if-has_room_for.true) in
-    record { value = t.0; after = t.1 }
+put_found-requires c =
+    let z = c.args in
+    let h = with_fit _ _ _ c.in_ok-room_for.ensures.room in
+    let s = parts_fit z.number z.line.now z.field z.word in
+    let e = c.put_subject.ensures in
+    let f = c.put_expected.ensures in
+    let g = there _ _ _ c.text.ensures (omega (arith, e.place, e.long, f.place, f.long)) in
+    omega (arith, e.place, e.long, f.place, f.long, g.place, g.long)
 
 pub returns : goal.returns
+unfolding text
 returns c =
-    let t = piece_refused _ _ _ _ (sym c.has_room_for.ensures ∙ c.if-has_room_for.false) in
-    record { value = t.0; after = t.1 }
+    let t = complaint_put _ _ _ _ _ _ _ _ _ _ c.put_subject.ensures c.put_expected.ensures c.text.ensures c.put_found.ensures c.text-2.ensures c.in_ok-room_for.ensures.room in
+    let s = c.text-2.ensures.same ∙ c.put_found.ensures.same ∙ c.text.ensures.same ∙ c.put_expected.ensures.same ∙ c.put_subject.ensures.same in
+    record { value = t.0; after = search (rules, s, t.1) }

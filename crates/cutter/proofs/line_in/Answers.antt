@@ -1,17 +1,11 @@
-use Prim.Native.Nat.{◌-◌}
-use native.Mathlib.Omega.{arith}
-use mathlib.Core.Path.{ap, ◌∙◌}
-use mathlib.Core.Bool.{not}
-use borrow.Author.Tests.{eq-eqb, ne_eqb}
+use Rattle.std.proofs.Common.{rules, tests, refl, eqb}
+use Rattle.std.proofs.lemmas.Iterator.{YieldsList-from_slice}
+use Rattle.std.proofs.lemmas.Iterator.Search.{position_from_yields_List}
 use Rattle.cutter.specs.Cuts.{unbroken}
-use Rattle.cutter.proofs.Passing.{goes_on, line_ends, text_ends}
+use Rattle.cutter.proofs.Passing.{found, first_line_found}
 use Rattle.cutter.proofs.line_in.Goals as goal
 
-pub returns-then-is_line_feed : goal.returns-then-is_line_feed
-returns-then-is_line_feed c = line_ends _ _ c.loop-i.invariant.1 (omega arith) (eq-eqb _ _ c.if-is_line_feed.true)
-
-pub loop-i-preserved : goal.loop-i-preserved
-loop-i-preserved c = (omega arith, c.loop-i.invariant.1 ∙ goes_on unbroken _ _ (omega arith) (ap not (ne_eqb _ _ c.if-is_line_feed.false)))
-
 pub returns : goal.returns
-returns c = text_ends _ _ c.loop-i.invariant.1 c.loop-i.invariant.0 c.loop-i-test.false
+returns c =
+    let p = position_from_yields_List (λ b. eqb b 10) _ _ c.position.result c.position.ensures.ran (YieldsList-from_slice _ c.iter.ensures.rest) (λ x b q k. search (rules, tests)) in
+    rw c.min.ensures (first_line_found c.args.text.now _ (found unbroken (λ b. eqb b 10) (λ b. refl) c.args.text.now _ _ _ p refl c.unwrap_or-size.ensures))

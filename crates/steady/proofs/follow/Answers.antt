@@ -16,4 +16,4 @@ pub returns : goal.returns
 returns c =
     let a = c.args in
     settles a.m a.e a.steady c.decide-action.result c.perform-done.result c.unsettles.result c.decide-action.ensures c.perform-done.ensures c.unsettles.ensures
-    c.if-steady-unsettles.false c.finish-settled.result c.is_accepted-accepted.result c.finish-settled.ensures c.is_accepted-accepted.ensures
+    c.if-steady-unsettles.false c.finish-answer.result c.is_accepted-accepted.result c.finish-answer.ensures c.is_accepted-accepted.ensures

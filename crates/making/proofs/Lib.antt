@@ -1,0 +1,5 @@
+pub mod Written
+pub mod Onward
+pub mod Counts
+pub mod Leaves
+pub mod Made

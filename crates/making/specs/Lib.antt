@@ -1,0 +1,3 @@
+-- In the order to read them.
+pub mod Making
+pub mod Promises
