@@ -8,7 +8,7 @@ use std::io::{self, Write};
 // or its refusal.
 pub(crate) fn read<W: Write>(out: &mut W, log: &[u8]) -> io::Result<()> {
     match reader::read(log) {
-        Ok(Record { event, taken }) => write!(out, "{} | taken {taken}", AsRow(event))?,
+        Ok(Record { event, taken }) => write!(out, "{}{} {taken}", AsRow(event), " | taken")?,
         Err(why) => write!(out, "{}", Refused(why))?,
     }
     let body = Bytes(reader::body(log));
@@ -18,7 +18,7 @@ pub(crate) fn read<W: Write>(out: &mut W, log: &[u8]) -> io::Result<()> {
         Ok(()) => 0,
         Err(why) => u8::from(why),
     };
-    write!(out, " | body{body} | run {records} {end}")
+    write!(out, "{}{body}{} {records} {end}", " | body", " | run")
 }
 
 // A record written at a place of the front part of twelve bytes: what is answered, and all twelve bytes.

@@ -8,7 +8,7 @@ use std::io::{self, Write};
 pub(crate) fn start<W: Write>(out: &mut W, setup: Setup) -> io::Result<Machine> {
     let Stepped { answer, machine } = shelf::power_on(setup);
     let program = shelf::power_on(shelf::program_setup()).machine;
-    write!(out, "{} | {}", Told(answer), kept(program == machine))?;
+    write!(out, "{} |{}", Told(answer), kept(program == machine))?;
     Ok(machine)
 }
 
@@ -24,7 +24,7 @@ pub(crate) fn step<W: Write>(
     let drive = shelf::charge(machine);
     write!(
         out,
-        "{} |{} | {}",
+        "{} |{} |{}",
         Told(answer),
         Driven(drive),
         kept(before == machine)
@@ -40,7 +40,7 @@ pub(crate) fn hand_in<W: Write>(
     event: Event,
 ) -> io::Result<()> {
     let other = change.made_in(machine);
-    write!(out, " {} |", kept(machine == other))?;
+    write!(out, "{} |", kept(machine == other))?;
     step(out, other, event, 1)?;
     Ok(())
 }

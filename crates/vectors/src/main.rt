@@ -10,50 +10,42 @@ mod told;
 
 use model::Machine;
 use rows::Case;
-use std::alloc::Global;
-use std::io::{self, BufWriter, Write};
-use window::{read_full, say_failed};
+use std::io::{self, Write};
+use told::Unheard;
+use window::{read_full, say};
 
-// No table is longer, in bytes.
-const LONGEST: usize = 65535;
+// A table is shorter, in bytes.
+const SIZE: usize = 65536;
 
 fn main(rt: HostRuntime) {
-    if let Err(why) = tell_table(rt) {
-        say_failed(&mut rt.stderr(), b"telling the table", why);
-    }
-}
-
-// Tells the table on standard input. What was told before a failure is written all the same.
-fn tell_table(rt: HostRuntime) -> io::Result<()> {
-    let mut table = vec![in rt.alloc(); 0u8; LONGEST + 1]?;
+    let mut table = [0u8; SIZE];
     let length = read_full(&mut rt.stdin(), &mut table);
-    table.truncate(length);
-    if LONGEST < table.len() {
-        return writeln!(rt.stderr(), "the table is longer than {LONGEST} bytes");
+    if length < SIZE {
+        // Of what is told no failure is heard.
+        let _ = tell_all(&mut Unheard(rt.stdout()), &table[..length]);
+    } else {
+        say(&mut rt.stderr(), b"the table is longer than 65535 bytes\n");
     }
-    let mut out = BufWriter::new(rt.alloc(), rt.stdout())?;
-    let told = tell_all(rt.alloc(), &mut out, &table);
-    out.flush().and(told)
 }
 
 // Each row, at the machine that the rows before it left.
-fn tell_all<W: Write>(alloc: Global, out: &mut W, table: &[u8]) -> io::Result<()> {
+fn tell_all<W: Write>(out: &mut W, table: &[u8]) -> io::Result<()> {
     let mut machine = shelf::power_on(shelf::program_setup()).machine;
     for line in table.split_inclusive(|b| *b == b'\n') {
         let row = line.strip_suffix(b"\n").unwrap_or(line);
-        machine = tell(alloc, out, machine, row)?;
+        machine = tell(out, machine, row)?;
     }
     Ok(())
 }
 
 // A row as it stands, and behind it what it comes to; the machine after it. An empty row and one that begins with # are
 // for people.
-fn tell<W: Write>(alloc: Global, out: &mut W, machine: Machine, row: &[u8]) -> io::Result<Machine> {
+fn tell<W: Write>(out: &mut W, machine: Machine, row: &[u8]) -> io::Result<Machine> {
     out.write_all(row)?;
     let mut after = machine;
     if !matches!(row.first(), None | Some(b'#')) {
         write!(out, " |")?;
-        match Case::of_row(alloc, row)? {
+        match Case::of_row(row) {
             Some(case) => after = tell_case(out, machine, case)?,
             None => write!(out, " no such row")?,
         }
@@ -69,7 +61,7 @@ fn tell_case<W: Write>(out: &mut W, machine: Machine, case: Case) -> io::Result<
         Case::Start(setup) => return machines::start(out, setup),
         Case::Step { event, times } => return machines::step(out, machine, event, times),
         Case::Handed { change, event } => machines::hand_in(out, machine, change, event)?,
-        Case::Read(bytes) => log::read(out, &bytes)?,
+        Case::Read { bytes, count } => log::read(out, bytes.get(..count).unwrap_or(&bytes))?,
         Case::Write { size, place, event } => log::write(out, size, place, event)?,
     }
     Ok(machine)

@@ -2,13 +2,12 @@
 // the rest. Words are for people, but for the last, whose first letter says which event stands behind something else.
 use crate::registers::{Change, Register};
 use model::{Event, Limit, Output, Setup};
-use std::alloc::{AllocError, Global};
 
 // A row has no more numbers; further ones are passed over.
 const MOST_NUMBERS: usize = 12;
 
 // What a row asks for.
-#[derive(Drop)]
+#[derive(Clone, Copy, Debug, PartialEq, Eq)]
 pub enum Case {
     // Power-on.
     Start(Setup),
@@ -22,8 +21,11 @@ pub enum Case {
         change: Change,
         event: Event,
     },
-    // The record at the front of these bytes, and all of them run as a log.
-    Read(Vec<u8>),
+    // The record at the front of so many of these bytes, and all of them run as a log.
+    Read {
+        bytes: [u8; MOST_NUMBERS],
+        count: usize,
+    },
     // The record of an event, at a place of a log of that size.
     Write {
         size: usize,
@@ -34,23 +36,20 @@ pub enum Case {
 
 impl Case {
     // None if no case has the row's first letter.
-    pub(crate) fn of_row(alloc: Global, row: &[u8]) -> Result<Option<Case>, AllocError> {
-        let Some(&letter) = row.first() else {
-            return Ok(None);
-        };
-        let found: Vec<u32> = row
-            .split(is_space)
-            .filter_map(number_in)
-            .take(MOST_NUMBERS)
-            .collect(alloc)?;
-        let mut numbers = Numbers { rest: &found };
+    pub(crate) fn of_row(row: &[u8]) -> Option<Case> {
+        let letter = *row.first()?;
+        let found = Found::in_row(row);
+        let mut numbers = Numbers { rest: &found.of };
         let case = match letter {
             b's' => Case::Start(setup_of(&mut numbers)),
             b'h' => Case::Handed {
                 change: change_of(&mut numbers),
                 event: event_behind(row, &mut numbers),
             },
-            b'l' => Case::Read(found.iter().map(|n| low_byte(*n)).collect(alloc)?),
+            b'l' => Case::Read {
+                bytes: found.of.map(low_byte),
+                count: found.count,
+            },
             b'f' => Case::Write {
                 size: numbers.number() as usize,
                 place: numbers.number() as usize,
@@ -60,12 +59,33 @@ impl Case {
                 event: Event::Tick,
                 times: numbers.number(),
             },
-            _ => match event_of(letter, &mut numbers) {
-                Some(event) => Case::Step { event, times: 1 },
-                None => return Ok(None),
+            _ => Case::Step {
+                event: event_of(letter, &mut numbers)?,
+                times: 1,
             },
         };
-        Ok(Some(case))
+        Some(case)
+    }
+}
+
+// How many numbers a row has, and which, with zeros behind them. An array of a fixed size: no heap can run out.
+#[derive(Clone, Copy, Debug, PartialEq, Eq)]
+struct Found {
+    pub of: [u32; MOST_NUMBERS],
+    pub count: usize,
+}
+
+impl Found {
+    fn in_row(row: &[u8]) -> Found {
+        let mut of = [0; MOST_NUMBERS];
+        let mut count = 0;
+        for number in row.split(is_space).filter_map(number_in) {
+            if count < MOST_NUMBERS {
+                of[count] = number;
+                count += 1;
+            }
+        }
+        Found { of, count }
     }
 }
 
