@@ -11,10 +11,14 @@ value_of none = None
 unfoldable pub word_for : ℕ → ℕ → ℕ
 word_for beyond n = if leb n 65535 then n else beyond
 
+-- no number
+abbrev pub no_figure : Option ℕ
+no_figure = None
+
 -- a number of a setup, or none
 unfoldable pub figure_for : ℕ → Number → Option ℕ
 figure_for beyond (number n) = Some (word_for beyond n)
-figure_for beyond none = None
+figure_for beyond none = no_figure
 
 -- the number that decimal digits spell; a text without any, or with another byte, is none
 unfoldable pub figure_of : ℕ → List ℕ → Option ℕ

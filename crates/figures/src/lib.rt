@@ -3,7 +3,7 @@
 
 ghost use Rattle.std.specs.Prelude.{◌≡◌, ◌+◌, ◌*◌, ◌≤◌, min};
 ghost use Rattle.spelling.specs.Numbers.{digit_in, spelled, marked, number_in};
-ghost use Rattle.figures.specs.Figures.{value_of, word_for, figure_of};
+ghost use Rattle.figures.specs.Figures.{value_of, word_for, no_figure, figure_of};
 
 pub mod promises;
 
@@ -25,6 +25,13 @@ pub fn figure_in(text: &[u8], beyond: u16) -> Option<u16>
 {
     let value = digits_in(text, 10)?;
     Some(word_of(value, beyond))
+}
+
+// No number: what is answered for an argument that cannot be read as one.
+pub fn no_figure() -> Option<u16>
+    ensures { result ≡ no_figure }
+{
+    None
 }
 
 // Whether a word begins with `0x`.

@@ -2,7 +2,7 @@
 // safe mA, largest and safe mV, low and restart level in mV, wake current in mA and wake voltage in mV.
 #![tactic(auto)]
 
-use figures::figure_in;
+use figures::{figure_in, no_figure};
 use model::{Limit, Output, Setup};
 use std::env::FillError;
 use std::rt::Env;
@@ -112,7 +112,7 @@ fn argument(rt: HostRuntime, i: usize, place: &Place) -> Option<u16> {
         },
     };
     complain(rt, place.name, wrong);
-    None
+    no_figure()
 }
 
 fn complain(rt: HostRuntime, name: &[u8], what: &[u8]) {
