@@ -2,15 +2,16 @@
 use Rattle.std.specs.Prelude.{Option, Some, None, unwrap_or}
 use Rattle.std.specs.List.{prefix_len}
 use Rattle.model.proofs.Bools.{choose}
-use Prim.Native.Nat.{ℕ, ◌+◌, ◌-◌, ◌≤◌, ◌<◌, min}
+use Prim.Native.Nat.{ℕ, ◌+◌, ◌≤◌, ◌<◌, min}
+use native.Mathlib.Numerals.{add-one}
 use native.Mathlib.Omega.{arith}
 use mathlib.Core.Path.{◌≡◌, refl}
 use mathlib.Core.List.{List, [], ◌∷◌}
 use mathlib.Core.Bool.{Bool, true, false, not, cond}
 use lib.Dec.{ltb}
 use borrow.Author.Tests.{ltb-false}
-use lib.ListN.{length, take, drop, drop_of_length-le, length-drop}
-use lib.Seq.{take_all}
+use lib.ListN.{length, get_or, drop_of_length-le}
+use lib.Seq.{drop-cons}
 use Rattle.notation.specs.Words.{line_feed, line_in, size_in}
 use Rattle.cutter.specs.Cuts.{first_line, passing, past, unbroken}
 
@@ -34,19 +35,25 @@ found test other h s o d n p q r = rw (r, p, q, same s) (go (ltb (passing test s
     go true e = refl
     go false e = let l = ltb-false _ _ e in let w = passes test s in omega arith
 
-pub not_not : (b : Bool) → not (not b) ≡ b
-not_not true = refl
-not_not false = refl
-
 -- from a place on
-module _ (test : ℕ → Bool) (s : List ℕ) (at : ℕ) where
-  pub past_the_end : length s < at → at ≡ past test s at
+module _ (test : ℕ → Bool) (s : List ℕ) (i : ℕ) where
+  -- a byte that passes: the same place is reached from the next
+  pub goes_on : i < length s → test (get_or s i 0) ≡ true → past test s i ≡ past test s (i + 1)
   unfolding past passing
-  past_the_end h = rw (drop_of_length-le s {i = at} (omega arith)) (omega arith)
+  goes_on h t = rw (drop-cons s i 0 h, t, add-one) (omega arith)
 
-  pub past_rest : (n : ℕ) → n ≡ passing test (take (length s - at) (drop at s)) → at + n ≡ past test s at
-  unfolding past
-  past_rest n e = let l = length-drop at s in rw (e, take_all (length s - at) (drop at s) (omega (arith, l)))
+  -- one that does not, and the end
+  pub stops_here : i < length s → test (get_or s i 0) ≡ false → past test s i ≡ i
+  unfolding past passing
+  stops_here h t = rw (drop-cons s i 0 h, t) (omega arith)
+
+  pub ends_here : length s ≤ i → past test s i ≡ i
+  unfolding past passing
+  ends_here h = rw (drop_of_length-le s h) (omega arith)
+
+-- from a place on as from another, by what a test may answer of each byte
+unfoldable pub Reaches : (ℕ → Bool → Type 0) → List ℕ → ℕ → ℕ → Type 0
+Reaches answers s at place = (test : ℕ → Bool) → ((b : ℕ) (answer : Bool) → answers b answer → answer ≡ test b) → past test s at ≡ past test s place
 
 -- LINES
 

@@ -48,10 +48,15 @@ fn past<F: Fn(u8) -> bool>(line: &[u8], at: usize, passes: F) -> usize
     requires { F.IsAlwaysCallable passes }
     ensures { PastBy (F.post passes) line.now at result }
 {
-    let Some(rest) = line.get(at..) else {
-        return at;
-    };
-    at + rest.iter().position(|b| !passes(*b)).unwrap_or(rest.len())
+    // By places: over what is left, as a slice of its own, a short line takes up to half as much time again.
+    let mut behind = at;
+    for place in at..line.len() {
+        if !passes(line[place]) {
+            break;
+        }
+        behind = place + 1;
+    }
+    behind
 }
 
 // A space, a tab or a carriage return.

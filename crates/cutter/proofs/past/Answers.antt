@@ -1,18 +1,25 @@
-use Rattle.std.proofs.Common.{rules, tests, refl, ap, ◌∙◌, not}
-use native.Mathlib.Omega.{arith}
-use Rattle.std.proofs.lemmas.Iterator.{YieldsList-from_slice}
-use Rattle.std.proofs.lemmas.Iterator.Search.{position_from_yields_List}
-use Rattle.cutter.specs.Cuts.{passing, PastBy}
-use Rattle.cutter.proofs.Passing.{found, not_not, past_rest, past_the_end}
+use mathlib.Core.Path.{refl, sym, ◌∙◌}
+use Rattle.cutter.specs.Cuts.{PastBy}
+use Rattle.cutter.proofs.Passing.{Reaches, goes_on, stops_here, ends_here}
+use Rattle.cutter.proofs.past.Goals.{else-loop-place-test, then-loop-place-test+then-not-passes}
 use Rattle.cutter.proofs.past.Goals as goal
 
-pub returns-in_default : goal.returns-in_default
-unfolding PastBy
-returns-in_default g c = λ test tells. past_the_end test _ _ (let e = c.in_default.ensures.lookup in omega (arith, e))
+pub loop-place-init : goal.loop-place-init
+unfolding Reaches
+loop-place-init g c = (refl, λ test tells. refl)
+
+pub loop-place-preserved : goal.loop-place-preserved
+unfolding Reaches
+loop-place-preserved g c = (
+  refl,
+  λ test tells.
+      c.loop-place.invariant.1 test tells ∙ goes_on test _ _ c.loop-place-test.true (sym (tells _ _ c.passes.ensures) ∙ c.if-not-passes.false),
+)
 
 pub returns : goal.returns
-unfolding PastBy
+unfolding PastBy Reaches
 returns g c = λ test tells.
-    let rest = c.in-Some.rest.now in
-    let p = position_from_yields_List (λ b. not (test b)) _ _ c.position.result c.position.ensures.ran (YieldsList-from_slice rest c.iter.ensures.rest) (λ x b q k. search (rules, tests, tells)) in
-    past_rest test _ _ _ (found test (λ b. not (test b)) (λ b. not_not (test b)) rest _ _ _ p refl c.unwrap_or.ensures ∙ ap (passing test) c.in-Some.ensures.lookup.0.2)
+    c.loop-place.invariant.0 ∙ sym (c.loop-place.invariant.1 test tells ∙ elim c.loop-place-test.branch [
+      | else-loop-place-test w ↦ ends_here test _ _ w.loop-place-test.false
+      | then-loop-place-test+then-not-passes w ↦ stops_here test _ _ w.loop-place-test.true (sym (tells _ _ w.passes.ensures) ∙ w.if-not-passes.true)
+    ])
